@@ -1,0 +1,48 @@
+-- Find (01, Answers and their numbers): the two guards and the key's surroundings are looked at, then its cluster's keys.
+-- `soundAround`, `lockedAround` are put's too.
+-- Assumes nothing.
+use Prim.Native.Nat.{ℕ, suc}
+use mathlib.Core.Bool.{Bool, not, cond, _&&_}
+use mathlib.Core.List.{List}
+use lib.ListN.{length}
+use lib.Seq.{slice}
+use lib.Dec.{ltb}
+use Rattle.rules.specs.declared.Shape.{Shape}
+use Rattle.rules.specs.Lists.{bitOf}
+use Rattle.rules.specs.Word.{Word, isVoid}
+use Rattle.rules.specs.Bytes.{wordsOf}
+use Rattle.rules.specs.Shape.{shapeOf, keys, goodTable}
+use Rattle.rules.specs.Entry.{Entry, split}
+use Rattle.rules.specs.Table.{at, occupied, leftGap, rightGap, cluster, soundRun, clusterEntries, guardsVoid, locked}
+use Rattle.rules.specs.Lay.{holds}
+use Rattle.rules.specs.Answer.{Answer, says, refuses}
+
+-- the home place alone if unoccupied, else its cluster and the empty place at each end:
+-- an unoccupied home is its own gap on both sides, with no cluster between
+unfoldable pub around : List Word → ℕ → List Word
+around ws home = slice (leftGap (occupied ws) home) (suc (rightGap (occupied ws) home)) ws
+
+-- nothing unsound among the guards and the surroundings, and no guard occupied
+unfoldable pub soundAround : Shape → List Word → ℕ → Bool
+soundAround sh ws home =
+    guardsVoid sh ws
+    && (isVoid (at ws (leftGap (occupied ws) home)) && isVoid (at ws (rightGap (occupied ws) home)))
+    && soundRun sh (cluster ws home)
+
+unfoldable pub lockedAround : List Word → ℕ → Bool
+lockedAround ws home = locked (around ws home)
+
+unfoldable pub findIn : Shape → List Word → Entry → Answer
+findIn sh ws e =
+    cond (soundAround sh ws (e .home))
+    (cond (lockedAround ws (e .home)) (refuses 7) (says (bitOf (holds e (clusterEntries ws (e .home))))))
+    (refuses 6)
+
+-- find (m, r, the lent table, key)
+unfoldable pub find : ℕ → ℕ → List ℕ → ℕ → Answer
+find m r bytes key =
+    cond (goodTable (shapeOf m r) (length bytes))
+    (cond (ltb key (keys (shapeOf m r)))
+    (findIn (shapeOf m r) (wordsOf bytes) (split (shapeOf m r) key))
+    (refuses 2))
+    (refuses 1)

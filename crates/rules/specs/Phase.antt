@@ -1,0 +1,155 @@
+-- The step list (01, Tasks and their steps): one definition for each phase 1 to 12, in the paper's order.
+-- Each gives the record that follows and the words, or says that the words are unsound (refusal 6). H is the home place.
+-- Assumes nothing.
+use Prim.Native.Nat.{ℕ, suc, _+_, _-_}
+use mathlib.Core.Bool.{Bool, true, false, not, cond, _&&_, _||_}
+use mathlib.Core.List.{List}
+use lib.ListN.{set}
+use lib.Dec.{ltb, eqb}
+use Rattle.rules.specs.declared.Shape.{Shape}
+use Rattle.rules.specs.declared.Task.{Task}
+use Rattle.rules.specs.Lists.{count, all, any}
+use Rattle.rules.specs.Word.{Word, isZero, isLock, withLock, withVirgin, withChange, withRemainder, withPayload}
+use Rattle.rules.specs.Shape.{rightGuard}
+use Rattle.rules.specs.Entry.{Entry, split, sameHome, precedes}
+use Rattle.rules.specs.Table.{at, between, soundRun, entriesBetween}
+use Rattle.rules.specs.Lay.{holds}
+use Rattle.rules.specs.Record.{homePlace, toPhase, withLeft, withRight, withHand, withGoal, withAnswer}
+
+pub data Step : Type 0 where
+  to : Task → List Word → Step
+  unsound : Step
+
+-- a word with occupied, virgin and change set
+abbrev pub aloneWord : ℕ → Word
+aloneWord x = record { remainder = x; occupied = true; virgin = true; change = true; lock = false }
+
+-- 1 home: word locked, stay; word 0, fill it, answer 2, phase 13; occupied, left = H − 1, phase 2; otherwise 6
+unfoldable pub home : Shape → List Word → Task → Step
+home sh ws t =
+    cond (at ws (homePlace sh t) .lock)
+    (to t ws)
+    (cond (isZero (at ws (homePlace sh t)))
+    (to (toPhase 13 (withAnswer 2 t)) (set ws (homePlace sh t) (aloneWord (split sh (t .key) .remainder))))
+    (cond (at ws (homePlace sh t) .occupied) (to (toPhase 2 (withLeft (homePlace sh t - 1) t)) ws) unsound))
+
+-- 2 look left: word at left occupied, left falls by 1; else right = H + 1, phase 3
+unfoldable pub lookLeft : Shape → List Word → Task → Step
+lookLeft sh ws t =
+    cond (at ws (t .left) .occupied)
+    (to (withLeft (t .left - 1) t) ws)
+    (to (toPhase 3 (withRight (homePlace sh t + 1) t)) ws)
+
+-- 3 look right: word at right occupied, right rises by 1; else phase 4
+unfoldable pub lookRight : Shape → List Word → Task → Step
+lookRight sh ws t =
+    cond (at ws (t .right) .occupied) (to (withRight (t .right + 1) t) ws) (to (toPhase 4 t) ws)
+
+-- 4: word at left is 0, set its lock, phase 5; else phase 1
+unfoldable pub lockLeft : Shape → List Word → Task → Step
+lockLeft sh ws t =
+    cond (isZero (at ws (t .left)))
+    (to (toPhase 5 t) (set ws (t .left) (withLock true (at ws (t .left)))))
+    (to (toPhase 1 t) ws)
+
+-- 5: word at right is 0, set its lock, phase 7; else phase 6
+unfoldable pub lockRight : Shape → List Word → Task → Step
+lockRight sh ws t =
+    cond (isZero (at ws (t .right)))
+    (to (toPhase 7 t) (set ws (t .right) (withLock true (at ws (t .right)))))
+    (to (toPhase 6 t) ws)
+
+-- 6: clear the lock at left, phase 1
+unfoldable pub backOff : Shape → List Word → Task → Step
+backOff sh ws t = to (toPhase 1 t) (set ws (t .left) (withLock false (at ws (t .left))))
+
+-- left and right exactly the lock bit, the places between occupied and one sound cluster
+unfoldable pub readable : Shape → List Word → Task → Bool
+readable sh ws t =
+    isLock (at ws (t .left))
+    && isLock (at ws (t .right))
+    && all (λ (w : Word). w .occupied) (between ws (t .left) (t .right))
+    && soundRun sh (between ws (t .left) (t .right))
+
+-- the number of smaller keys
+unfoldable pub smaller : Entry → List Entry → ℕ
+smaller e es = count (λ (f : Entry). precedes f e) es
+
+-- 2 if the key's group is new, 1 if the key is larger than all of its group, else 0
+unfoldable pub markOf : Entry → List Entry → ℕ
+markOf e es =
+    cond (any (sameHome e) es) (cond (all (λ (f : Entry). not (sameHome e f) || precedes f e) es) 1 0) 2
+
+-- if left is not 0, hand = left and goal = left + t; if it is, hand = right and goal = t + 1
+unfoldable pub handOf : Task → ℕ
+handOf t = cond (eqb (t .left) 0) (t .right) (t .left)
+
+unfoldable pub goalOf : Task → ℕ → ℕ
+goalOf t n = cond (eqb (t .left) 0) (n + 1) (t .left + n)
+
+-- what the read step makes of the entries between left and right
+unfoldable pub readEntries : Shape → Task → Entry → List Entry → Task
+readEntries sh t e es =
+    cond (holds e es)
+    (toPhase 11 (withAnswer 1 t))
+    (cond (eqb (t .left) 0 && eqb (t .right) (rightGuard sh))
+    (toPhase 11 (withAnswer 3 t))
+    (toPhase 8 (withHand (handOf t) (withGoal (goalOf t (smaller e es)) (markOf e es) t))))
+
+-- 7 read, writing no word
+unfoldable pub read : Shape → List Word → Task → Step
+read sh ws t =
+    cond (readable sh ws t)
+    (to (readEntries sh t (split sh (t .key)) (entriesBetween ws (t .left) (t .right))) ws)
+    (to (toPhase 11 (withAnswer 4 t)) ws)
+
+-- phase 10 when the hand is at the goal, else 9
+unfoldable pub movesOn : Task → Task
+movesOn t = toPhase (cond (eqb (t .hand) (t .goal)) 10 9) t
+
+-- 8 fill: word at hand must be exactly the lock bit, else 6; add occupied and the remainder
+unfoldable pub fillHand : Shape → List Word → Task → Step
+fillHand sh ws t =
+    cond (isLock (at ws (t .hand)))
+    (to (movesOn t) (set ws (t .hand) (withRemainder (split sh (t .key) .remainder) (at ws (t .hand)))))
+    unsound
+
+-- the neighbour of hand towards goal
+unfoldable pub neighbour : Task → ℕ
+neighbour t = cond (ltb (t .hand) (t .goal)) (t .hand + 1) (t .hand - 1)
+
+-- two places exchange remainder and change bit only
+unfoldable pub exchange : List Word → ℕ → ℕ → List Word
+exchange ws p q = set (set ws p (withPayload (at ws q) (at ws p))) q (withPayload (at ws p) (at ws q))
+
+-- 9 move: the neighbour of hand towards goal must be occupied, else 6; hand is that neighbour
+unfoldable pub move : Shape → List Word → Task → Step
+move sh ws t =
+    cond (at ws (neighbour t) .occupied)
+    (to (movesOn (withHand (neighbour t) t)) (exchange ws (t .hand) (neighbour t)))
+    unsound
+
+unfoldable pub setChange : List Word → ℕ → Bool → List Word
+setChange ws p b = set ws p (withChange b (at ws p))
+
+unfoldable pub setVirgin : List Word → ℕ → List Word
+setVirgin ws p = set ws p (withVirgin true (at ws p))
+
+-- mark 2 sets change at goal and virgin at H; mark 1 sets change at goal and clears it at goal − 1; mark 0 nothing
+unfoldable pub marked : List Word → ℕ → ℕ → ℕ → List Word
+marked ws mark goal homeAt =
+    cond (eqb mark 2)
+    (setVirgin (setChange ws goal true) homeAt)
+    (cond (eqb mark 1) (setChange (setChange ws goal true) (goal - 1) false) ws)
+
+-- 10: the marks; answer 2, phase 11
+unfoldable pub mark : Shape → List Word → Task → Step
+mark sh ws t = to (toPhase 11 (withAnswer 2 t)) (marked ws (t .mark) (t .goal) (homePlace sh t))
+
+-- 11: clear the lock at left, phase 12
+unfoldable pub freeLeft : Shape → List Word → Task → Step
+freeLeft sh ws t = to (toPhase 12 t) (set ws (t .left) (withLock false (at ws (t .left))))
+
+-- 12: clear the lock at right, phase 13
+unfoldable pub freeRight : Shape → List Word → Task → Step
+freeRight sh ws t = to (toPhase 13 t) (set ws (t .right) (withLock false (at ws (t .right))))

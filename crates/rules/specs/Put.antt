@@ -1,0 +1,66 @@
+-- Put (01, Answers and their numbers; Where a new key goes): the cluster's keys and the new one stand in ascending order
+-- over the cluster enlarged by the place that the rule names.
+-- Assumes nothing.
+use Prim.Native.Nat.{ℕ, suc, min}
+use mathlib.Core.Bool.{Bool, true, cond}
+use mathlib.Core.List.{List}
+use lib.ListN.{length, replicate}
+use lib.Seq.{sets}
+use lib.Dec.{ltb}
+use Rattle.rules.specs.declared.Shape.{Shape}
+use Rattle.rules.specs.Word.{Word}
+use Rattle.rules.specs.Bytes.{wordsOf, bytesOf}
+use Rattle.rules.specs.Shape.{shapeOf, keys, goodTable}
+use Rattle.rules.specs.Entry.{Entry, split}
+use Rattle.rules.specs.Table.{occupied, leftGap, clusterEntries}
+use Rattle.rules.specs.Room.{Room, place, full, roomFor}
+use Rattle.rules.specs.Lay.{holds, insert, lay}
+use Rattle.rules.specs.Answer.{Answer, says, refuses, Leaves, leaves}
+use Rattle.rules.specs.Find.{soundAround, lockedAround}
+
+-- entries laid into as many places from place p on
+unfoldable pub layRun : ℕ → List Entry → List Word
+layRun p es = lay es p (replicate (length es) true) es
+
+-- the first place of the enlarged cluster: the filled place, or the cluster's own first where the fill is at its right
+unfoldable pub enlargedFrom : List Word → ℕ → ℕ → ℕ
+enlargedFrom ws home p = min p (suc (leftGap (occupied ws) home))
+
+-- the table with an absent entry added, its place to fill being p
+unfoldable pub addAt : List Word → Entry → ℕ → List Word
+addAt ws e p = sets ws (enlargedFrom ws (e .home) p) (layRun (enlargedFrom ws (e .home) p) (insert e (clusterEntries ws (e .home))))
+
+-- an answer with the table unchanged, or with another table
+pub data Outcome : Type 0 where
+  keeps : Answer → Outcome
+  writes : Answer → List Word → Outcome
+
+abbrev pub addTo : List Word → Entry → Room → Outcome
+addTo ws e (place p) = writes (says 2) (addAt ws e p)
+addTo ws e full = keeps (refuses 8)
+
+unfoldable pub putIn : Shape → List Word → Entry → Outcome
+putIn sh ws e =
+    cond (soundAround sh ws (e .home))
+    (cond (lockedAround ws (e .home))
+    (keeps (refuses 7))
+    (cond (holds e (clusterEntries ws (e .home))) (keeps (says 1)) (addTo ws e (roomFor sh (occupied ws) (e .home)))))
+    (keeps (refuses 6))
+
+-- the words, and the bytes, that an outcome leaves
+abbrev pub wordsAfter : List Word → Outcome → List Word
+wordsAfter ws (keeps a) = ws
+wordsAfter ws (writes a vs) = vs
+
+abbrev pub bytesAfter : List ℕ → Outcome → Leaves (List ℕ)
+bytesAfter bytes (keeps a) = leaves a bytes
+bytesAfter bytes (writes a ws) = leaves a (bytesOf ws)
+
+-- put (m, r, the lent table, key), with the table as it is left
+unfoldable pub put : ℕ → ℕ → List ℕ → ℕ → Leaves (List ℕ)
+put m r bytes key =
+    cond (goodTable (shapeOf m r) (length bytes))
+    (cond (ltb key (keys (shapeOf m r)))
+    (bytesAfter bytes (putIn (shapeOf m r) (wordsOf bytes) (split (shapeOf m r) key)))
+    (leaves (refuses 2) bytes))
+    (leaves (refuses 1) bytes)
