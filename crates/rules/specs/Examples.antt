@@ -79,5 +79,10 @@ rows =
     ∷ []
 
 pub rows-hold : map (λ (row : Row). row .call) rows ≡ map (λ (row : Row). row .paper) rows
-unfolding count all any wordOf numberOf isVoid wordsOf bytesOf inRange homes remainders keys places rightGuard fitsLength goodTable placeOfHome homeOfPlace homeOf remainderOf split join sameHome sameEntry precedes occupied leftGap lead rightGap cluster endsInChange rising soundRun virginPlaces deal entriesBetween clusterEntries entryAt entriesFrom entries list soundAt soundFrom guardsVoid sound locked roomBeside roomFor holds insert ascend hasHome endsGroup lay around soundAround lockedAround findIn find layRun enlargedFrom addAt putIn put zeros puts tooMany buildIn build atFront listIn listing
+unfolding count all any wordOf numberOf isVoid wordsOf bytesOf inRange homes remainders keys places rightGuard
+    fitsLength goodTable placeOfHome homeOfPlace homeOf remainderOf split join sameHome sameEntry precedes
+    occupied leftGap lead rightGap cluster endsInChange rising soundRun virginPlaces deal entriesBetween
+    clusterEntries entryAt entriesFrom entries list soundAt soundFrom guardsVoid sound locked roomBeside
+    roomFor holds insert ascend hasHome endsGroup lay around soundAround lockedAround findIn find layRun
+    enlargedFrom addAt putIn put zeros puts tooMany buildIn build atFront listIn listing
 rows-hold = refl
