@@ -1,0 +1,2 @@
+-- The theory of sound tables, over the definitions of the crate rules.
+pub mod Run
