@@ -1,2 +1,5 @@
 -- The theory of sound tables, over the definitions of the crate rules.
 pub mod Run
+pub mod Dealt
+pub mod Locks
+pub mod RunLaws
