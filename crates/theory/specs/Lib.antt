@@ -3,3 +3,6 @@ pub mod Run
 pub mod Dealt
 pub mod Locks
 pub mod RunLaws
+pub mod Perm
+pub mod Insert
+pub mod Joined
