@@ -2,17 +2,17 @@
 -- Its heart is `asc-unique`: an ascending list is determined by what it holds.
 -- `d` is the number of remainders, at most 4096.
 -- Assumes nothing.
-use Prim.Native.Nat.{ℕ, suc, _+_, _*_, _≤_, _<_}
+use Prim.Native.Nat.{ℕ, suc, _*_, _≤_, _<_}
 use mathlib.Core.Path.{_≡_, refl, sym, ap, _∙_, subst}
 use mathlib.Core.Logic.{_≢_}
-use mathlib.Core.Bool.{Bool, true, false, cond, _&&_, _||_, true≢false, false≢true, or-assoc}
+use mathlib.Core.Bool.{Bool, true, false, _&&_, _||_, true≢false, false≢true, or-assoc}
 use mathlib.Core.List.{List, [], _∷_, _++_}
 use native.Mathlib.Nat.{le-refl, le-trans}
 use native.Mathlib.Omega.{arith}
 use lib.ListN.{length}
 use lib.Dec.{ltb, eqb}
-use borrow.Author.Tests.{ltb-true, ltb-false, eqb-true, eqb-false, eq-eqb, lt-ltb, le-ltb}
-use Rattle.rules.specs.Lists.{bitOf, any, count}
+use borrow.Author.Tests.{ltb-true, ltb-false, eqb-true, eq-eqb, lt-ltb, le-ltb}
+use Rattle.rules.specs.Lists.{any, count}
 use Rattle.rules.specs.Entry.{Entry, sameHome, sameEntry, precedes}
 use Rattle.rules.specs.Lay.{holds, insert, ascend}
 use Rattle.rules.specs.Phase.{smaller}
@@ -22,6 +22,7 @@ use Rattle.theory.specs.Perm.{All, Perm, all-map, all-perm, any-perm, or
 
 -- ---- the order of two entries
 
+-- an entry precedes another exactly if its code is below, as long as remainders are below 4096
 pub precedes-below : (e f : Entry) → f .remainder < 4096 → code e < code f → precedes e f ≡ true
 unfolding precedes sameHome
 precedes-below e f y h = go (ltb (e .home) (f .home)) refl
@@ -43,6 +44,14 @@ precedes-above e f x h = go (eqb (e .home) (f .home)) refl
     go true p = rw (low, p, le-ltb (e .remainder) (f .remainder) (omega (arith, eqb-true)))
     go false p = rw (low, p)
 
+pub precedes-code : (e f : Entry) → e .remainder < 4096 → precedes e f ≡ true → code e < code f
+precedes-code e f x h = go (ltb (code e) (code f)) refl
+  where
+    go : (b : Bool) → ltb (code e) (code f) ≡ b → code e < code f
+    go true p = ltb-true (code e) (code f) p
+    go false p = absurd (true≢false (sym h ∙ precedes-above e f x (ltb-false (code e) (code f) p)))
+
+-- `sameEntry` is equality
 pub same-refl : (e : Entry) → sameEntry e e ≡ true
 unfolding sameEntry sameHome
 same-refl e = rw (eq-eqb (e .home) (e .home) refl, eq-eqb (e .remainder) (e .remainder) refl)
@@ -115,6 +124,7 @@ pub asc-weaken :
 asc-weaken h k none = none
 asc-weaken h k (next {e = e} p q r s) = next (le-trans h p) q (le-trans r k) (asc-weaken (le-refl (suc (code e))) k s)
 
+-- what all of a list have, an entry that it holds has
 pub held-all : {P : Entry → Type 0} {es : List Entry} (e : Entry) → All P es → holds e es ≡ true → P e
 unfolding holds any
 held-all e perm.none h = absurd (false≢true h)
@@ -239,8 +249,7 @@ insert-comm {es} e f low v w s =
     low
     (insert-asc e low v (insert-asc f low w s))
     (insert-asc f low w (insert-asc e low v s))
-    (λ x.
-    simp holds-insert (or-swap (sameEntry x e) (sameEntry x f) (holds x es)))
+    (λ x. simp holds-insert (or-swap (sameEntry x e) (sameEntry x f) (holds x es)))
 
 -- ---- the distinct entries of a list, ascending
 
@@ -285,7 +294,7 @@ pub asc-append :
 asc-append h none perm.none t = asc-weaken h (le-refl _) t
 asc-append h (next p q r s) (perm.both k ks) t = next p q r (asc-append k s ks t)
 
--- and back
+-- and the parts of an ascending list
 pub asc-front : {d c b : ℕ} (xs ys : List Entry) → Asc d c b (xs ++ ys) → Asc d c b xs
 asc-front [] ys s = none
 asc-front (e ∷ xs) ys (next p q r s) = next p q r (asc-front xs ys s)

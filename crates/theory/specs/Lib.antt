@@ -6,3 +6,8 @@ pub mod RunLaws
 pub mod Perm
 pub mod Insert
 pub mod Joined
+pub mod Seen
+pub mod Gaps
+pub mod Order
+pub mod Places
+pub mod SoundTable

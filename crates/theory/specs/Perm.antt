@@ -3,7 +3,7 @@
 -- Assumes nothing.
 use mathlib.Core.Path.{_≡_, refl, ap, _∙_}
 use mathlib.Core.Bool.{Bool, true, false, _||_}
-use mathlib.Core.List.{List, [], _∷_}
+use mathlib.Core.List.{List, [], _∷_, foldl}
 use Rattle.rules.specs.Lists.{any}
 
 pub data All {A : Type 0} (P : A → Type 0) : List A → Type 0 where
@@ -38,3 +38,17 @@ any-perm f nil = refl
 any-perm f (cons x r) = ap (λ (b : Bool). f x || b) (any-perm f r)
 any-perm f (swap x y xs) = or-swap (f x) (f y) (any f xs)
 any-perm f (trans r s) = any-perm f r ∙ any-perm f s
+
+-- a fold gives the same over a permutation where its steps commute; `Ok` is what the steps keep
+pub fold-perm :
+    {S A : Type 0} (step : S → A → S) {Ok : S → Type 0} {P : A → Type 0} →
+    ((s : S) (x : A) → Ok s → P x → Ok (step s x)) →
+    ((s : S) (x y : A) → Ok s → P x → P y → step (step s x) y ≡ step (step s y) x) →
+    {xs ys : List A} → Perm xs ys → All P xs → (s : S) → Ok s → foldl step s xs ≡ foldl step s ys
+fold-perm step keep commute nil ps s k = refl
+fold-perm step keep commute (cons x r) (both p ps) s k =
+    fold-perm step keep commute r ps (step s x) (keep s x k p)
+fold-perm {S} step keep commute (swap x y xs) (both p (both q ps)) s k =
+    ap (λ (t : S). foldl step t xs) (commute s x y k p q)
+fold-perm step keep commute (trans r t) ps s k =
+    fold-perm step keep commute r ps s k ∙ fold-perm step keep commute t (all-perm r ps) s k

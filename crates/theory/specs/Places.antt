@@ -1,0 +1,187 @@
+-- A place in a run between two unoccupied words: its gaps, its cluster and its surroundings are those that one sees.
+-- And an unoccupied place: it is its own gap on both sides, with no cluster.
+-- Assumes nothing.
+use Prim.Native.Nat.{ℕ, zero, suc, _+_, _-_, _*_, _≤_, _<_}
+use mathlib.Core.Path.{_≡_, refl, sym, ap, ap₂, _∙_, subst}
+use mathlib.Core.Logic.{_≢_}
+use mathlib.Core.Bool.{Bool, true, false, not, _&&_}
+use mathlib.Core.List.{List, [], _∷_, _++_, append-assoc, map}
+use native.Mathlib.Omega.{arith}
+use native.Mathlib.Nat.{le-refl, le-trans}
+use lib.ListN.{length, getD, take, drop, length-append, length-take, drop-of-length-le, List·getD-append, List·getD-map}
+use lib.Dec.{eqb}
+use lib.Seq.{slice, getD-append-seam, getD-append-add, take-append-add, take-append-seam, drop-append-seam, slice-empty}
+use Rattle.rules.specs.Lists.{all}
+use Rattle.rules.specs.Word.{Word, zeroWord, isVoid}
+use Rattle.rules.specs.Entry.{Entry}
+use Rattle.rules.specs.Table.{at, occupied, leftGap, rightGap, between, cluster, virginPlaces, deal, entriesBetween}
+use Rattle.rules.specs.Table.{clusterEntries, entryAt}
+use Rattle.rules.specs.Find.{around}
+use Rattle.theory.specs.Dealt.{isOccupied, and-left, and-right}
+use Rattle.theory.specs.Gaps.{Taken, Free, Gap, gap-only, leftGap-is, rightGap-is}
+use Rattle.theory.specs.Gaps as gaps
+
+pub void-free : (w : Word) → isVoid w ≡ true → w .occupied ≡ false
+unfolding isVoid
+void-free w void =
+    go
+    (w .occupied)
+    (and-left
+    (not (w .occupied))
+    (not (w .virgin) && not (w .change))
+    (and-right (eqb (w .remainder) 0) (not (w .occupied) && (not (w .virgin) && not (w .change))) void))
+  where
+    go : (b : Bool) → not b ≡ true → b ≡ false
+    go true e = sym e
+    go false e = refl
+
+pub all-at : (f : Word → Bool) (ws : List Word) (i : ℕ) → all f ws ≡ true → i < length ws → f (at ws i) ≡ true
+unfolding all
+all-at f [] i h lt = absurd (omega arith)
+all-at f (w ∷ ws) zero h lt = and-left (f w) _ h
+all-at f (w ∷ ws) (suc i) h lt = all-at f ws i (and-right (f w) _ h) (omega arith)
+
+pub occupied-at : (ws : List Word) (p : ℕ) → getD (occupied ws) p false ≡ at ws p .occupied
+unfolding occupied
+occupied-at ws p = List·getD-map isOccupied ws p zeroWord
+
+-- ---- words at a place of an append
+pub at-seam : (u : List Word) (g : Word) (v : List Word) → at (u ++ (g ∷ v)) (length u) ≡ g
+at-seam u g v = getD-append-seam u g v zeroWord
+
+pub at-after : (u : List Word) (g : Word) (v : List Word) (i : ℕ) → at (u ++ (g ∷ v)) (suc (length u) + i) ≡ at v i
+at-after u g v i = ap (at (u ++ (g ∷ v))) (plus (length u) i) ∙ getD-append-add u (g ∷ v) (suc i) zeroWord
+  where
+    plus : (n i : ℕ) → suc n + i ≡ n + suc i
+    plus n i = omega arith
+
+pub at-left : (u v : List Word) (i : ℕ) → i < length u → at (u ++ v) i ≡ at u i
+at-left u v i lt = List·getD-append u v zeroWord i lt
+
+-- the part in the middle of three
+slice-part :
+  (xs ys zs : List Word) (l r : ℕ) → l ≡ length xs → r ≡ length xs + length ys → slice l r (xs ++ (ys ++ zs)) ≡ ys
+slice-part xs ys zs l r p q =
+    ap₂ (λ (a b : ℕ). slice a b (xs ++ (ys ++ zs))) p q
+    ∙ ap (drop (length xs)) (take-append-add xs (ys ++ zs) (length ys) ∙ ap (λ (t : List Word). xs ++ t) (take-append-seam ys zs))
+    ∙ drop-append-seam xs ys
+
+-- ---- an unoccupied place
+module _ (u : List Word) (g : Word) (v : List Word) (empty : g .occupied ≡ false) (origin : at (u ++ (g ∷ v)) 0 .occupied ≡ false) where
+  gap-free : Free (occupied (u ++ (g ∷ v))) (length u)
+  gap-free = occupied-at (u ++ (g ∷ v)) (length u) ∙ ap isOccupied (at-seam u g v) ∙ empty
+
+  pub gap-left : leftGap (occupied (u ++ (g ∷ v))) (length u) ≡ length u
+  gap-left =
+      gap-only
+      gaps.left
+      (leftGap-is (occupied (u ++ (g ∷ v))) (length u) (occupied-at (u ++ (g ∷ v)) 0 ∙ origin))
+      (record { side = le-refl _; free = gap-free; run = λ q x y n. absurd (n (omega arith)) })
+
+  pub gap-right : rightGap (occupied (u ++ (g ∷ v))) (length u) ≡ length u
+  gap-right =
+      gap-only
+      gaps.right
+      (rightGap-is (occupied (u ++ (g ∷ v))) (length u))
+      (record { side = le-refl _; free = gap-free; run = λ q x y n. absurd (n (omega arith)) })
+
+  pub gap-cluster : cluster (u ++ (g ∷ v)) (length u) ≡ []
+  unfolding cluster
+  gap-cluster =
+      ap₂ (λ (l r : ℕ). between (u ++ (g ∷ v)) l r) gap-left gap-right
+      ∙ drop-of-length-le (take (length u) (u ++ (g ∷ v))) {i = suc (length u)} (omega (arith, length-take (length u) (u ++ (g ∷ v))))
+
+  pub gap-entries : clusterEntries (u ++ (g ∷ v)) (length u) ≡ []
+  unfolding clusterEntries entriesBetween cluster deal virginPlaces
+  gap-entries =
+      ap (λ (ws : List Word). deal (virginPlaces (suc (leftGap (occupied (u ++ (g ∷ v))) (length u))) ws) ws) gap-cluster
+
+  pub gap-around : around (u ++ (g ∷ v)) (length u) ≡ g ∷ []
+  unfolding around
+  gap-around =
+      ap₂ (λ (l r : ℕ). slice l (suc r) (u ++ (g ∷ v))) gap-left gap-right
+      ∙ slice-part u (g ∷ []) v (length u) (suc (length u)) refl (omega arith)
+
+-- ---- a place of a run
+module _ (u : List Word) (g : Word) (run : List Word) (h : Word) (v : List Word)
+  (empty-left : g .occupied ≡ false)
+  (taken : all isOccupied run ≡ true)
+  (empty-right : h .occupied ≡ false)
+  (origin : at (u ++ (g ∷ (run ++ (h ∷ v)))) 0 .occupied ≡ false)
+  where
+  abbrev ws : List Word
+  ws = u ++ (g ∷ (run ++ (h ∷ v)))
+
+  run-taken : (q : ℕ) → length u < q → q < suc (length u) + length run → Taken (occupied ws) q
+  run-taken q low high =
+      occupied-at ws q
+      ∙ ap (λ (p : ℕ). at ws p .occupied) (sym place)
+      ∙ ap isOccupied (at-after u g (run ++ (h ∷ v)) (q - suc (length u)) ∙ at-left run (h ∷ v) (q - suc (length u)) (omega arith))
+      ∙ all-at isOccupied run (q - suc (length u)) taken (omega arith)
+    where
+      place : suc (length u) + (q - suc (length u)) ≡ q
+      place = omega arith
+
+  pub run-left : (p : ℕ) → length u < p → p < suc (length u) + length run → leftGap (occupied ws) p ≡ length u
+  run-left p low high =
+      gap-only
+      gaps.left
+      (leftGap-is (occupied ws) p (occupied-at ws 0 ∙ origin))
+      (record {
+        side = omega arith;
+        free = occupied-at ws (length u) ∙ ap isOccupied (at-seam u g (run ++ (h ∷ v))) ∙ empty-left;
+        run = λ q x y n. run-taken q (omega (arith, n)) (omega arith)
+      })
+
+  pub run-right : (p : ℕ) → length u < p → p < suc (length u) + length run → rightGap (occupied ws) p ≡ suc (length u) + length run
+  run-right p low high =
+      gap-only
+      gaps.right
+      (rightGap-is (occupied ws) p)
+      (record {
+        side = omega arith;
+        free =
+            occupied-at ws (suc (length u) + length run)
+            ∙ ap isOccupied (at-after u g (run ++ (h ∷ v)) (length run) ∙ at-seam run h v)
+            ∙ empty-right;
+        run = λ q x y n. run-taken q (omega arith) (omega (arith, n))
+      })
+
+  pub run-between : between ws (length u) (suc (length u) + length run) ≡ run
+  run-between =
+      ap (slice (suc (length u)) (suc (length u) + length run)) (sym (append-assoc u (g ∷ []) (run ++ (h ∷ v))))
+      ∙ slice-part
+      (u ++ (g ∷ []))
+      run
+      (h ∷ v)
+      (suc (length u))
+      (suc (length u) + length run)
+      (omega (arith, length-append u (g ∷ [])))
+      (omega (arith, length-append u (g ∷ [])))
+
+  module _ (p : ℕ) (after : length u < p) (before : p < suc (length u) + length run) where
+    pub run-cluster : cluster ws p ≡ run
+    unfolding cluster
+    run-cluster = ap₂ (between ws) (run-left p after before) (run-right p after before) ∙ run-between
+
+    pub run-cluster-entries : clusterEntries ws p ≡ deal (virginPlaces (suc (length u)) run) run
+    unfolding clusterEntries entriesBetween
+    run-cluster-entries =
+        ap₂ (entriesBetween ws) (run-left p after before) (run-right p after before)
+        ∙ ap (λ (t : List Word). deal (virginPlaces (suc (length u)) t) t) run-between
+
+    pub run-around : around ws p ≡ g ∷ (run ++ (h ∷ []))
+    unfolding around
+    run-around =
+        ap₂ (λ (l r : ℕ). slice l (suc r) ws) (run-left p after before) (run-right p after before)
+        ∙ ap
+        (λ (t : List Word). slice (length u) (suc (suc (length u) + length run)) (u ++ (g ∷ t)))
+        (sym (append-assoc run (h ∷ []) v))
+        ∙ slice-part
+        u
+        (g ∷ (run ++ (h ∷ [])))
+        v
+        (length u)
+        (suc (suc (length u) + length run))
+        refl
+        (omega (arith, length-append run (h ∷ [])))
