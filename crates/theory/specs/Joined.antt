@@ -37,7 +37,7 @@ has-home-right x (next {e = e} p q r up) le =
     ap₂ _||_ (ne-eqb (e .home) x (λ (same : e .home ≡ x). omega arith)) (has-home-right x up le)
 
 pub has-home-left :
-  {d c b : ℕ} {es : List Entry} (x : ℕ) → d ≤ 4096 → Asc d c b es → suc x * 4096 ≤ b → hasHome es x ≡ false
+    {d c b : ℕ} {es : List Entry} (x : ℕ) → d ≤ 4096 → Asc d c b es → suc x * 4096 ≤ b → hasHome es x ≡ false
 unfolding hasHome any
 has-home-left x s none le = refl
 has-home-left x s (next {e = e} p q r up) le =
@@ -46,20 +46,20 @@ has-home-left x s (next {e = e} p q r up) le =
 -- ---- laying entries one after the other
 -- an entry with a home below c ends its group before entries from home c on
 ends-before :
-  {d c c′ : ℕ} (e : Entry) {ys : List Entry} → d ≤ 4096 → e .home < c → Asc d c′ (c * 4096) ys → endsGroup e ys ≡ true
+    {d c c′ : ℕ} (e : Entry) {ys : List Entry} → d ≤ 4096 → e .home < c → Asc d c′ (c * 4096) ys → endsGroup e ys ≡ true
 unfolding endsGroup sameHome
 ends-before e s lt none = refl
 ends-before e s lt (next {e = f} p q r up) =
     ap not (ne-eqb (e .home) (f .home) (λ (same : e .home ≡ f .home). omega arith))
 
 pub lay-append :
-  {d c c′ b : ℕ} (whole : List Entry) (p q : ℕ) (os : List Bool) {xs ys : List Entry} →
-  d ≤ 4096 →
-  Asc d c b xs →
-  Asc d c′ (c * 4096) ys →
-  q ≡ p + length xs →
-  lay whole p (replicate (length xs) true ++ os) (xs ++ ys)
-  ≡ lay whole p (replicate (length xs) true) xs ++ lay whole q os ys
+    {d c c′ b : ℕ} (whole : List Entry) (p q : ℕ) (os : List Bool) {xs ys : List Entry} →
+    d ≤ 4096 →
+    Asc d c b xs →
+    Asc d c′ (c * 4096) ys →
+    q ≡ p + length xs →
+    lay whole p (replicate (length xs) true ++ os) (xs ++ ys)
+    ≡ lay whole p (replicate (length xs) true) xs ++ lay whole q os ys
 unfolding lay endsGroup
 lay-append whole p q os {ys = ys} s none down at = ap (λ (n : ℕ). lay whole n os ys) (omega arith)
 lay-append whole p q os {ys = ys} s (next {e = e} b₁ l u none) down at =
@@ -77,16 +77,16 @@ lay-append whole p q os {ys = ys} s (next {e = e} b₁ l u (next {e = f} {es = e
       occupied = true;
       virgin = hasHome whole p;
       change = endsGroup e (f ∷ es);
-      lock = false
+      lock = false;
     }
     ∷ ws)
     (lay-append whole (suc p) q os s (next b₂ l₂ u₂ up) down (omega arith))
 
 -- which entries are taken for the whole matters only for the homes at the places laid
 pub lay-whole :
-  (whole other : List Entry) (p : ℕ) (es : List Entry) →
-  ((i : ℕ) → i < length es → hasHome whole (p + i) ≡ hasHome other (p + i)) →
-  lay whole p (replicate (length es) true) es ≡ lay other p (replicate (length es) true) es
+    (whole other : List Entry) (p : ℕ) (es : List Entry) →
+    ((i : ℕ) → i < length es → hasHome whole (p + i) ≡ hasHome other (p + i)) →
+    lay whole p (replicate (length es) true) es ≡ lay other p (replicate (length es) true) es
 unfolding lay
 lay-whole whole other p [] same = refl
 lay-whole whole other p (e ∷ es) same =
@@ -97,7 +97,7 @@ lay-whole whole other p (e ∷ es) same =
       occupied = true;
       virgin = b;
       change = endsGroup e es;
-      lock = false
+      lock = false;
     }
     ∷ ws)
     here
@@ -105,6 +105,7 @@ lay-whole whole other p (e ∷ es) same =
   where
     here : hasHome whole p ≡ hasHome other p
     here = subst (λ (x : ℕ). hasHome whole x ≡ hasHome other x) (add-zero p) (same 0 (omega arith))
+
     later : (i : ℕ) → i < length es → hasHome whole (suc p + i) ≡ hasHome other (suc p + i)
     later i lt = subst (λ (x : ℕ). hasHome whole x ≡ hasHome other x) (omega arith) (same (suc i) (omega arith))
 
@@ -114,33 +115,39 @@ or-none true = refl
 or-none false = refl
 
 pub run-append :
-  {d a b : ℕ} {u v : List Word} {xs ys : List Entry} →
-  d ≤ 4096 → Run d a u xs → b ≡ a + length u → Run d b v ys → Run d a (u ++ v) (xs ++ ys)
+    {d a b : ℕ} {u v : List Word} {xs ys : List Entry} →
+    d ≤ 4096 → Run d a u xs → b ≡ a + length u → Run d b v ys → Run d a (u ++ v) (xs ++ ys)
 unfolding layRun
 run-append {d} {a} {b} {u} {v} {xs} {ys} s r at t =
     record {
       size = length-append xs ys ∙ ap₂ _+_ (r .size) (t .size) ∙ sym (length-append u v);
       asc = asc-append lower (asc-weaken (le-refl _) wider (r .asc)) (asc-below s left-asc) right-asc;
-      laid = whole-laid
+      laid = whole-laid;
     }
   where
     left-asc : Asc d b (a * 4096) xs
     left-asc = asc-weaken (le-refl _) (omega arith) (r .asc)
+
     lower : a * 4096 ≤ b * 4096
     lower = omega arith
+
     wider : a + length u ≤ a + length (u ++ v)
     wider = omega (arith, length-append u v)
+
     right-asc : Asc d (a + length (u ++ v)) (b * 4096) ys
     right-asc = asc-weaken (le-refl _) (omega (arith, length-append u v)) (t .asc)
+
     left-home : (i : ℕ) → i < length xs → hasHome (xs ++ ys) (a + i) ≡ hasHome xs (a + i)
     left-home i lt =
         has-home-append xs ys (a + i)
         ∙ ap (λ (h : Bool). hasHome xs (a + i) || h) (has-home-left (a + i) s right-asc (omega (arith, r .size)))
         ∙ or-none (hasHome xs (a + i))
+
     right-home : (i : ℕ) → i < length ys → hasHome (xs ++ ys) (b + i) ≡ hasHome ys (b + i)
     right-home i lt =
         has-home-append xs ys (b + i)
         ∙ ap (λ (h : Bool). h || hasHome ys (b + i)) (has-home-right (b + i) left-asc (omega arith))
+
     whole-laid : lay (xs ++ ys) a (replicate (length (xs ++ ys)) true) (xs ++ ys) ≡ map unlock (u ++ v)
     whole-laid =
         ap

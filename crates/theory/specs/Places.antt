@@ -60,7 +60,7 @@ at-left u v i lt = List·getD-append u v zeroWord i lt
 
 -- the part in the middle of three
 slice-part :
-  (xs ys zs : List Word) (l r : ℕ) → l ≡ length xs → r ≡ length xs + length ys → slice l r (xs ++ (ys ++ zs)) ≡ ys
+    (xs ys zs : List Word) (l r : ℕ) → l ≡ length xs → r ≡ length xs + length ys → slice l r (xs ++ (ys ++ zs)) ≡ ys
 slice-part xs ys zs l r p q =
     ap₂ (λ (a b : ℕ). slice a b (xs ++ (ys ++ zs))) p q
     ∙ ap (drop (length xs)) (take-append-add xs (ys ++ zs) (length ys) ∙ ap (λ (t : List Word). xs ++ t) (take-append-seam ys zs))
@@ -104,84 +104,84 @@ module _ (u : List Word) (g : Word) (v : List Word) (empty : g .occupied ≡ fal
 
 -- ---- a place of a run
 module _ (u : List Word) (g : Word) (run : List Word) (h : Word) (v : List Word)
-  (empty-left : g .occupied ≡ false)
-  (taken : all isOccupied run ≡ true)
-  (empty-right : h .occupied ≡ false)
-  (origin : at (u ++ (g ∷ (run ++ (h ∷ v)))) 0 .occupied ≡ false)
+    (empty-left : g .occupied ≡ false)
+    (taken : all isOccupied run ≡ true)
+    (empty-right : h .occupied ≡ false)
+    (origin : at (u ++ (g ∷ (run ++ (h ∷ v)))) 0 .occupied ≡ false)
   where
-  abbrev ws : List Word
-  ws = u ++ (g ∷ (run ++ (h ∷ v)))
+    abbrev ws : List Word
+    ws = u ++ (g ∷ (run ++ (h ∷ v)))
 
-  run-taken : (q : ℕ) → length u < q → q < suc (length u) + length run → Taken (occupied ws) q
-  run-taken q low high =
-      occupied-at ws q
-      ∙ ap (λ (p : ℕ). at ws p .occupied) (sym place)
-      ∙ ap isOccupied (at-after u g (run ++ (h ∷ v)) (q - suc (length u)) ∙ at-left run (h ∷ v) (q - suc (length u)) (omega arith))
-      ∙ all-at isOccupied run (q - suc (length u)) taken (omega arith)
-    where
-      place : suc (length u) + (q - suc (length u)) ≡ q
-      place = omega arith
+    run-taken : (q : ℕ) → length u < q → q < suc (length u) + length run → Taken (occupied ws) q
+    run-taken q low high =
+        occupied-at ws q
+        ∙ ap (λ (p : ℕ). at ws p .occupied) (sym place)
+        ∙ ap isOccupied (at-after u g (run ++ (h ∷ v)) (q - suc (length u)) ∙ at-left run (h ∷ v) (q - suc (length u)) (omega arith))
+        ∙ all-at isOccupied run (q - suc (length u)) taken (omega arith)
+      where
+        place : suc (length u) + (q - suc (length u)) ≡ q
+        place = omega arith
 
-  pub run-left : (p : ℕ) → length u < p → p < suc (length u) + length run → leftGap (occupied ws) p ≡ length u
-  run-left p low high =
-      gap-only
-      gaps.left
-      (leftGap-is (occupied ws) p (occupied-at ws 0 ∙ origin))
-      (record {
-        side = omega arith;
-        free = occupied-at ws (length u) ∙ ap isOccupied (at-seam u g (run ++ (h ∷ v))) ∙ empty-left;
-        run = λ q x y n. run-taken q (omega (arith, n)) (omega arith)
-      })
+    pub run-left : (p : ℕ) → length u < p → p < suc (length u) + length run → leftGap (occupied ws) p ≡ length u
+    run-left p low high =
+        gap-only
+        gaps.left
+        (leftGap-is (occupied ws) p (occupied-at ws 0 ∙ origin))
+        (record {
+          side = omega arith;
+          free = occupied-at ws (length u) ∙ ap isOccupied (at-seam u g (run ++ (h ∷ v))) ∙ empty-left;
+          run = λ q x y n. run-taken q (omega (arith, n)) (omega arith);
+        })
 
-  pub run-right : (p : ℕ) → length u < p → p < suc (length u) + length run → rightGap (occupied ws) p ≡ suc (length u) + length run
-  run-right p low high =
-      gap-only
-      gaps.right
-      (rightGap-is (occupied ws) p)
-      (record {
-        side = omega arith;
-        free =
-            occupied-at ws (suc (length u) + length run)
-            ∙ ap isOccupied (at-after u g (run ++ (h ∷ v)) (length run) ∙ at-seam run h v)
-            ∙ empty-right;
-        run = λ q x y n. run-taken q (omega arith) (omega (arith, n))
-      })
+    pub run-right : (p : ℕ) → length u < p → p < suc (length u) + length run → rightGap (occupied ws) p ≡ suc (length u) + length run
+    run-right p low high =
+        gap-only
+        gaps.right
+        (rightGap-is (occupied ws) p)
+        (record {
+          side = omega arith;
+          free =
+              occupied-at ws (suc (length u) + length run)
+              ∙ ap isOccupied (at-after u g (run ++ (h ∷ v)) (length run) ∙ at-seam run h v)
+              ∙ empty-right;
+          run = λ q x y n. run-taken q (omega arith) (omega (arith, n));
+        })
 
-  pub run-between : between ws (length u) (suc (length u) + length run) ≡ run
-  run-between =
-      ap (slice (suc (length u)) (suc (length u) + length run)) (sym (append-assoc u (g ∷ []) (run ++ (h ∷ v))))
-      ∙ slice-part
-      (u ++ (g ∷ []))
-      run
-      (h ∷ v)
-      (suc (length u))
-      (suc (length u) + length run)
-      (omega (arith, length-append u (g ∷ [])))
-      (omega (arith, length-append u (g ∷ [])))
-
-  module _ (p : ℕ) (after : length u < p) (before : p < suc (length u) + length run) where
-    pub run-cluster : cluster ws p ≡ run
-    unfolding cluster
-    run-cluster = ap₂ (between ws) (run-left p after before) (run-right p after before) ∙ run-between
-
-    pub run-cluster-entries : clusterEntries ws p ≡ deal (virginPlaces (suc (length u)) run) run
-    unfolding clusterEntries entriesBetween
-    run-cluster-entries =
-        ap₂ (entriesBetween ws) (run-left p after before) (run-right p after before)
-        ∙ ap (λ (t : List Word). deal (virginPlaces (suc (length u)) t) t) run-between
-
-    pub run-around : around ws p ≡ g ∷ (run ++ (h ∷ []))
-    unfolding around
-    run-around =
-        ap₂ (λ (l r : ℕ). slice l (suc r) ws) (run-left p after before) (run-right p after before)
-        ∙ ap
-        (λ (t : List Word). slice (length u) (suc (suc (length u) + length run)) (u ++ (g ∷ t)))
-        (sym (append-assoc run (h ∷ []) v))
+    pub run-between : between ws (length u) (suc (length u) + length run) ≡ run
+    run-between =
+        ap (slice (suc (length u)) (suc (length u) + length run)) (sym (append-assoc u (g ∷ []) (run ++ (h ∷ v))))
         ∙ slice-part
-        u
-        (g ∷ (run ++ (h ∷ [])))
-        v
-        (length u)
-        (suc (suc (length u) + length run))
-        refl
-        (omega (arith, length-append run (h ∷ [])))
+        (u ++ (g ∷ []))
+        run
+        (h ∷ v)
+        (suc (length u))
+        (suc (length u) + length run)
+        (omega (arith, length-append u (g ∷ [])))
+        (omega (arith, length-append u (g ∷ [])))
+
+    module _ (p : ℕ) (after : length u < p) (before : p < suc (length u) + length run) where
+      pub run-cluster : cluster ws p ≡ run
+      unfolding cluster
+      run-cluster = ap₂ (between ws) (run-left p after before) (run-right p after before) ∙ run-between
+
+      pub run-cluster-entries : clusterEntries ws p ≡ deal (virginPlaces (suc (length u)) run) run
+      unfolding clusterEntries entriesBetween
+      run-cluster-entries =
+          ap₂ (entriesBetween ws) (run-left p after before) (run-right p after before)
+          ∙ ap (λ (t : List Word). deal (virginPlaces (suc (length u)) t) t) run-between
+
+      pub run-around : around ws p ≡ g ∷ (run ++ (h ∷ []))
+      unfolding around
+      run-around =
+          ap₂ (λ (l r : ℕ). slice l (suc r) ws) (run-left p after before) (run-right p after before)
+          ∙ ap
+          (λ (t : List Word). slice (length u) (suc (suc (length u) + length run)) (u ++ (g ∷ t)))
+          (sym (append-assoc run (h ∷ []) v))
+          ∙ slice-part
+          u
+          (g ∷ (run ++ (h ∷ [])))
+          v
+          (length u)
+          (suc (suc (length u) + length run))
+          refl
+          (omega (arith, length-append run (h ∷ [])))

@@ -19,17 +19,17 @@ use Rattle.theory.specs.Insert.{asc-weaken, asc-append, asc-below}
 pub data Right (d : ℕ) : ℕ → List Word → List Entry → Type 0 where
   right-end : {p : ℕ} {ws : List Word} {es : List Entry} → ws ≡ [] → es ≡ [] → Right d p ws es
   right-more :
-    {p : ℕ} {ws : List Word} {es : List Entry} (run : List Word) (g : Word) (v : List Word) (xs ys : List Entry) →
-    Run d p run xs →
-    isVoid g ≡ true →
-    Right d (suc (p + length run)) v ys → ws ≡ run ++ (g ∷ v) → es ≡ xs ++ ys → Right d p ws es
+      {p : ℕ} {ws : List Word} {es : List Entry} (run : List Word) (g : Word) (v : List Word) (xs ys : List Entry) →
+      Run d p run xs →
+      isVoid g ≡ true →
+      Right d (suc (p + length run)) v ys → ws ≡ run ++ (g ∷ v) → es ≡ xs ++ ys → Right d p ws es
 
 -- the words left of a gap, from place 0 on, and their entries
 pub data Left (d : ℕ) : List Word → List Entry → Type 0 where
   left-start : {ws : List Word} {es : List Entry} → ws ≡ [] → es ≡ [] → Left d ws es
   left-more :
-    {ws : List Word} {es : List Entry} (u : List Word) (g : Word) (run : List Word) (xs ys : List Entry) →
-    Left d u xs → isVoid g ≡ true → Run d (suc (length u)) run ys → ws ≡ u ++ (g ∷ run) → es ≡ xs ++ ys → Left d ws es
+      {ws : List Word} {es : List Entry} (u : List Word) (g : Word) (run : List Word) (xs ys : List Entry) →
+      Left d u xs → isVoid g ≡ true → Run d (suc (length u)) run ys → ws ≡ u ++ (g ∷ run) → es ≡ xs ++ ys → Left d ws es
 
 -- a table: the left guard and what lies right of it
 pub data Table (d : ℕ) : List Word → List Entry → Type 0 where
@@ -37,8 +37,8 @@ pub data Table (d : ℕ) : List Word → List Entry → Type 0 where
 
 -- ---- a table from what lies on both sides of a gap
 pub whole :
-  {d : ℕ} {u : List Word} {xs : List Entry} (g : Word) {v : List Word} {ys : List Entry} →
-  Left d u xs → isVoid g ≡ true → Right d (suc (length u)) v ys → Table d (u ++ (g ∷ v)) (xs ++ ys)
+    {d : ℕ} {u : List Word} {xs : List Entry} (g : Word) {v : List Word} {ys : List Entry} →
+    Left d u xs → isVoid g ≡ true → Right d (suc (length u)) v ys → Table d (u ++ (g ∷ v)) (xs ++ ys)
 whole {d} g {v} {ys} (left-start p q) void right =
     subst₂
     (Table d)
@@ -71,18 +71,18 @@ whole {d} g {v} {ys} (left-more u h run xs zs left hollow r p q) void right =
 
 -- a table seen from a run
 pub whole-run :
-  {d : ℕ} {u : List Word} {xs : List Entry} (g : Word) {run : List Word} {ys : List Entry} (h : Word) {v : List Word}
-  {zs : List Entry} →
-  Left d u xs →
-  isVoid g ≡ true →
-  Run d (suc (length u)) run ys →
-  isVoid h ≡ true →
-  Right d (suc (suc (length u) + length run)) v zs → Table d (u ++ (g ∷ (run ++ (h ∷ v)))) (xs ++ (ys ++ zs))
+    {d : ℕ} {u : List Word} {xs : List Entry} (g : Word) {run : List Word} {ys : List Entry} (h : Word) {v : List Word}
+    {zs : List Entry} →
+    Left d u xs →
+    isVoid g ≡ true →
+    Run d (suc (length u)) run ys →
+    isVoid h ≡ true →
+    Right d (suc (suc (length u) + length run)) v zs → Table d (u ++ (g ∷ (run ++ (h ∷ v)))) (xs ++ (ys ++ zs))
 whole-run g h left void r hollow right = whole g left void (right-more _ h _ _ _ r hollow right refl refl)
 
 -- ---- the order of the entries
 pub right-asc :
-  {d p : ℕ} {ws : List Word} {es : List Entry} → d ≤ 4096 → Right d p ws es → Asc d (p + length ws) (p * 4096) es
+    {d p : ℕ} {ws : List Word} {es : List Entry} → d ≤ 4096 → Right d p ws es → Asc d (p + length ws) (p * 4096) es
 right-asc {d} {p} {ws} s (right-end e f) = subst (Asc d (p + length ws) (p * 4096)) (sym f) none
 right-asc {d} {p} {ws} s (right-more run g v xs ys r void rest e f) =
     subst
@@ -151,16 +151,16 @@ pub data Located (d : ℕ) (ws : List Word) (es : List Entry) (p : ℕ) : Type 0
 
 -- one run further to the right
 left-on :
-  {d : ℕ} {u : List Word} {xs : List Entry} (g : Word) (run : List Word) (ys : List Entry) →
-  Left d u xs → isVoid g ≡ true → Run d (suc (length u)) run ys → Left d (u ++ (g ∷ run)) (xs ++ ys)
+    {d : ℕ} {u : List Word} {xs : List Entry} (g : Word) (run : List Word) (ys : List Entry) →
+    Left d u xs → isVoid g ≡ true → Run d (suc (length u)) run ys → Left d (u ++ (g ∷ run)) (xs ++ ys)
 left-on {u = u} {xs} g run ys left void r = left-more u g run xs ys left void r refl refl
 
 locate-from :
-  {d p : ℕ} {u : List Word} {xs : List Entry} (g : Word) {v : List Word} {ys : List Entry} (q : ℕ) →
-  q ≡ suc (length u) →
-  Left d u xs →
-  isVoid g ≡ true →
-  Right d q v ys → length u ≤ p → p < q + length v → Located d (u ++ (g ∷ v)) (xs ++ ys) p
+    {d p : ℕ} {u : List Word} {xs : List Entry} (g : Word) {v : List Word} {ys : List Entry} (q : ℕ) →
+    q ≡ suc (length u) →
+    Left d u xs →
+    isVoid g ≡ true →
+    Right d q v ys → length u ≤ p → p < q + length v → Located d (u ++ (g ∷ v)) (xs ++ ys) p
 locate-from {d} {p} {u} {xs} g {v} {ys} q at left void (right-end e f) low high =
     at-gap
     (record {
@@ -174,7 +174,7 @@ locate-from {d} {p} {u} {xs} g {v} {ys} q at left void (right-end e f) low high 
       right = right-end e f;
       here = omega (arith, ap length e);
       words = refl;
-      shown = refl
+      shown = refl;
     })
 locate-from {d} {p} {u} {xs} g {v} {ys} q at left void (right-more run h w zs ts r hollow rest e f) low high =
     here-or-on (eqb p (length u)) refl (ltb p (q + length run)) refl
@@ -183,55 +183,56 @@ locate-from {d} {p} {u} {xs} g {v} {ys} q at left void (right-more run h w zs ts
   where
     far : suc (q + length run) ≡ suc (length (u ++ (g ∷ run)))
     far = omega (arith, length-append u (g ∷ run))
+
     here-or-on :
-      (a : Bool) →
-      eqb p (length u) ≡ a →
-      (b : Bool) →
-      ltb p (q + length run) ≡ b →
-      (length (u ++ (g ∷ run)) ≤ p → Located d ((u ++ (g ∷ run)) ++ (h ∷ w)) ((xs ++ zs) ++ ts) p) →
-      Located d (u ++ (g ∷ v)) (xs ++ ys) p
-    here-or-on true k b l further = 
-      at-gap
-      (record {
-        u = u;
-        g = g;
-        v = v;
-        xs = xs;
-        ys = ys;
-        left = left;
-        void = void;
-        right = subst (λ (n : ℕ). Right d n v ys) at (right-more run h w zs ts r hollow rest e f);
-        here = eqb-true p (length u) k;
-        words = refl;
-        shown = refl
-      })
-    here-or-on false k true l further = 
-      in-run
-      (record {
-        u = u;
-        g = g;
-        run = run;
-        h = h;
-        v = w;
-        xs = xs;
-        ys = zs;
-        zs = ts;
-        left = left;
-        void = void;
-        inside = subst (λ (n : ℕ). Run d n run zs) at r;
-        hollow = hollow;
-        right = subst (λ (n : ℕ). Right d (suc (n + length run)) w ts) at rest;
-        after = omega (arith, eqb-false p (length u) k);
-        before = omega (arith, ltb-true p (q + length run) l);
-        words = ap (λ (t : List Word). u ++ (g ∷ t)) e;
-        shown = ap (λ (t : List Entry). xs ++ t) f
-      })
-    here-or-on false k false l further = 
-      subst₂
-      (λ (ws : List Word) (es : List Entry). Located d ws es p)
-      (append-assoc u (g ∷ run) (h ∷ w) ∙ ap (λ (t : List Word). u ++ (g ∷ t)) (sym e))
-      (append-assoc xs zs ts ∙ ap (λ (t : List Entry). xs ++ t) (sym f))
-      (further (omega (arith, length-append u (g ∷ run), ltb-false p (q + length run) l)))
+        (a : Bool) →
+        eqb p (length u) ≡ a →
+        (b : Bool) →
+        ltb p (q + length run) ≡ b →
+        (length (u ++ (g ∷ run)) ≤ p → Located d ((u ++ (g ∷ run)) ++ (h ∷ w)) ((xs ++ zs) ++ ts) p) →
+        Located d (u ++ (g ∷ v)) (xs ++ ys) p
+    here-or-on true k b l further =
+        at-gap
+        (record {
+          u = u;
+          g = g;
+          v = v;
+          xs = xs;
+          ys = ys;
+          left = left;
+          void = void;
+          right = subst (λ (n : ℕ). Right d n v ys) at (right-more run h w zs ts r hollow rest e f);
+          here = eqb-true p (length u) k;
+          words = refl;
+          shown = refl;
+        })
+    here-or-on false k true l further =
+        in-run
+        (record {
+          u = u;
+          g = g;
+          run = run;
+          h = h;
+          v = w;
+          xs = xs;
+          ys = zs;
+          zs = ts;
+          left = left;
+          void = void;
+          inside = subst (λ (n : ℕ). Run d n run zs) at r;
+          hollow = hollow;
+          right = subst (λ (n : ℕ). Right d (suc (n + length run)) w ts) at rest;
+          after = omega (arith, eqb-false p (length u) k);
+          before = omega (arith, ltb-true p (q + length run) l);
+          words = ap (λ (t : List Word). u ++ (g ∷ t)) e;
+          shown = ap (λ (t : List Entry). xs ++ t) f;
+        })
+    here-or-on false k false l further =
+        subst₂
+        (λ (ws : List Word) (es : List Entry). Located d ws es p)
+        (append-assoc u (g ∷ run) (h ∷ w) ∙ ap (λ (t : List Word). u ++ (g ∷ t)) (sym e))
+        (append-assoc xs zs ts ∙ ap (λ (t : List Entry). xs ++ t) (sym f))
+        (further (omega (arith, length-append u (g ∷ run), ltb-false p (q + length run) l)))
 
 pub locate : {d : ℕ} {ws : List Word} {es : List Entry} (p : ℕ) → Table d ws es → p < length ws → Located d ws es p
 locate p (table {g} void right) lt = locate-from {p = p} g 1 refl (left-start refl refl) void right (omega arith) (omega arith)
