@@ -11,3 +11,4 @@ pub mod Gaps
 pub mod Order
 pub mod Places
 pub mod SoundTable
+pub mod Pairs
