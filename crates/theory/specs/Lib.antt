@@ -12,3 +12,4 @@ pub mod Order
 pub mod Places
 pub mod SoundTable
 pub mod Pairs
+pub mod Adding

@@ -63,7 +63,7 @@ void-unlock g void = word-path remainder occ virgin change refl
     change : g .change ≡ false
     change = unless _ (and-right (not (g .virgin)) _ (and-right (not (g .occupied)) _ bits))
 
-all-occupied : (run : List Word) → all isOccupied run ≡ true → occupied run ≡ replicate (length run) true
+pub all-occupied : (run : List Word) → all isOccupied run ≡ true → occupied run ≡ replicate (length run) true
 unfolding all occupied
 all-occupied [] occ = refl
 all-occupied (w ∷ run) occ =
@@ -177,7 +177,7 @@ lay-unlocked whole p (false ∷ os) es = ap (λ (ws : List Word). zeroWord ∷ w
 lay-unlocked whole p (true ∷ os) [] = ap (λ (ws : List Word). zeroWord ∷ ws) (lay-unlocked whole (suc p) os [])
 lay-unlocked whole p (true ∷ os) (e ∷ es) = ap₂ _∷_ refl (lay-unlocked whole (suc p) os es)
 
-lay-length : (whole : List Entry) (p : ℕ) (os : List Bool) (es : List Entry) → length (lay whole p os es) ≡ length os
+pub lay-length : (whole : List Entry) (p : ℕ) (os : List Bool) (es : List Entry) → length (lay whole p os es) ≡ length os
 unfolding lay
 lay-length whole p [] es = refl
 lay-length whole p (false ∷ os) es = ap suc (lay-length whole (suc p) os es)
@@ -201,7 +201,7 @@ tight-asc {d} {p} {os} s (tight-more rest xs ys up more e f) =
     long = ap length e ∙ length-append (replicate (length xs) true) (false ∷ rest) ∙ ap (λ (n : ℕ). n + suc (length rest)) (length-replicate (length xs) true)
 
 -- some entries laid over as many places, as a run
-lay-run :
+pub lay-run :
     {d p : ℕ} (whole xs : List Entry) →
     Asc d (p + length xs) (p * 4096) xs →
     ((i : ℕ) → i < length xs → hasHome whole (p + i) ≡ hasHome xs (p + i)) →
@@ -277,7 +277,7 @@ tight-size (tight-more rest xs ys up more e f) =
     ∙ ap (λ (n : ℕ). length xs + n) (tight-size more)
     ∙ sym (ap length f ∙ length-append xs ys)
 
-lay-marks :
+pub lay-marks :
     (whole : List Entry) (p : ℕ) (os : List Bool) (es : List Entry) →
     taken os ≤ length es → occupied (lay whole p os es) ≡ os
 unfolding lay occupied count
