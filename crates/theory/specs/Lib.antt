@@ -13,3 +13,11 @@ pub mod Places
 pub mod SoundTable
 pub mod Pairs
 pub mod Adding
+pub mod Motion
+pub mod Region
+pub mod Payload
+pub mod Mark
+pub mod Laid
+pub mod Side
+pub mod Enlarge
+pub mod Insertion
