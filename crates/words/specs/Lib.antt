@@ -2,3 +2,5 @@
 pub mod Number
 pub mod Change
 pub mod Layout
+pub mod Range
+pub mod Split

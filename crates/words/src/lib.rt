@@ -2,4 +2,5 @@
 // Each function is one equation with a definition of the crate rules.
 pub mod bytes;
 pub mod place;
+pub mod shape;
 pub mod word;
