@@ -8,7 +8,7 @@ use lib.Arith.{digits-div, digits-mod, digits-lt}
 use Rattle.rules.specs.declared.Shape.{Shape}
 use Rattle.rules.specs.Shape.{homes, remainders, keys}
 use Rattle.rules.specs.Entry.{Entry, placeOfHome, homeOfPlace, homeOf, remainderOf, split, join}
-use Rattle.words.specs.Range.{some-remainders, keys-are}
+use Rattle.words.specs.Range.{InRange, some-remainders, keys-are, keys-high}
 
 module _ (sh : Shape) (key : ℕ) where
   pub remainder-below : remainderOf sh key < remainders sh
@@ -47,3 +47,7 @@ module _ (sh : Shape) (e : Entry) (i : InShape sh e) where
   join-below =
       let home-number : e .home - 1 < homes sh = omega arith in
       rw keys-are (digits-lt home-number (i .remainder-low))
+
+-- and so nothing wraps where a key is joined in 32 bits
+pub join-fits : (sh : Shape) (e : Entry) → InRange sh → InShape sh e → join sh e < 4294967296
+join-fits sh e range i = omega (arith, join-below sh e i, keys-high sh range)
