@@ -1,16 +1,15 @@
 -- `set_word` meets its contract: the two bytes of a place written write its word, and no other.
 -- Assumes nothing.
 use borrow.Author.Needs.{needs}
+use native.Mathlib.Omega.{arith}
+use lib.ListN.{length-set}
 use denote.Ref.{now}
 use Rattle.words.specs.Layout.{word-set}
 use Rattle.words.proofs.bytes.set_word.Statement.{statement}
 use Rattle.words.proofs.bytes.set_word.Tie as tie
 
-cast-i : tie.Need-cast-i
-cast-i c = search needs
-
-mul-i : tie.Need-mul-i
-mul-i c = search needs
+low-byte-requires : tie.Need-low-byte-requires
+low-byte-requires c κs = search needs
 
 cast-table : tie.Need-cast-table
 cast-table c = search needs
@@ -25,20 +24,21 @@ add-table : tie.Need-add-table
 add-table c = search needs
 
 slice-write-table-2 : tie.Need-slice-write-table-2
-slice-write-table-2 c = search needs
+slice-write-table-2 c = simp length-set (omega arith)
 
 same-length : tie.Need-same-length
 same-length c = search needs
 
 returns : tie.Need-returns
-returns c = let start = c .before in word-set (now (start .args .table)) (start .args .p .0) (start .args .w) (start .pre)
+returns c =
+    let start = c .before .before in
+    rw (c .low-byte .ensures) (word-set (now (start .args .table)) (start .args .p .0) (start .args .w) (start .pre))
 
 pub set-word-spec : {M : Type 1} → statement M
 set-word-spec =
     tie.close
     (tie.spec
-    cast-i
-    mul-i
+    low-byte-requires
     cast-table
     slice-write-table
     cast-table-2

@@ -7,11 +7,8 @@ use Rattle.words.specs.Layout.{word-at}
 use Rattle.words.proofs.bytes.word_at.Statement.{statement}
 use Rattle.words.proofs.bytes.word_at.Tie as tie
 
-cast-i : tie.Need-cast-i
-cast-i c = search needs
-
-mul-i : tie.Need-mul-i
-mul-i c = search needs
+low-byte-requires : tie.Need-low-byte-requires
+low-byte-requires c κs = search needs
 
 shared-slice-read-wide : tie.Need-shared-slice-read-wide
 shared-slice-read-wide c = search needs
@@ -36,15 +33,15 @@ add-result c = search needs
 
 returns : tie.Need-returns
 returns c =
-    let start = c .before .before .before .before .before .before in
-    word-at (now (start .args .table)) (start .args .p .0) _ (start .pre) (omega arith)
+    let located = c .before .before .before .before in
+    let start = located .before .before in
+    word-at (now (start .args .table)) (start .args .p .0) _ (start .pre) (rw (← located .low-byte .ensures) (omega arith))
 
 pub word-at-spec : {M : Type 1} → statement M
 word-at-spec =
     tie.close
     (tie.spec
-    cast-i
-    mul-i
+    low-byte-requires
     shared-slice-read-wide
     wide-requires
     add-wide
