@@ -1,4 +1,5 @@
--- What a word's number becomes where a field of the word is changed, and how the number tells what the word is.
+-- A word by its number. `void-test`, `zero-test`, `lock-test`: how the number tells what the word is.
+-- `with-lock` to `with-payload`, `alone`: the number of a word with a field changed, as the rules change it.
 -- Assumes nothing.
 use Prim.Native.Nat.{ℕ, _+_, _*_, _/_, _%_, _<_}
 use mathlib.Core.Path.{_≡_, refl, sym, _∙_, ap}
@@ -16,7 +17,7 @@ use Rattle.words.specs.Number.{Small, small, remainder-small, number-of-
 number-is : (k : ℕ) (w : Word) → w .remainder < 4096 → k ≡ numberOf w → wordOf k ≡ w
 number-is k w h e = ap wordOf e ∙ word-of-number w h
 
--- tests of numbers that are equal at the same time have one value
+-- two tests of equality that hold together have one value
 same-test : (a b c d : ℕ) → (a ≡ b → c ≡ d) → (c ≡ d → a ≡ b) → eqb a b ≡ eqb c d
 same-test a b c d to back = go (eqb a b) refl
   where
@@ -24,11 +25,11 @@ same-test a b c d to back = go (eqb a b) refl
     go true e = sym (eq-eqb c d (to (eqb-true a b e)))
     go false e = sym (ne-eqb c d (λ q. eqb-false a b e (back q)))
 
--- a number in bits, without the lock bit
+-- the number of a word's fields, the lock bit aside
 abbrev unlocked : ℕ → Bool → Bool → Bool → ℕ
 unlocked x o v c = x + 4096 * bitOf o + 8192 * bitOf v + 16384 * bitOf c
 
--- a word is void where its number without the lock bit is 0
+-- a word is void where that number is 0
 void-fields :
     (x : ℕ) (o v c l : Bool) →
     isVoid (record { remainder = x; occupied = o; virgin = v; change = c; lock = l }) ≡ eqb (unlocked x o v c) 0
@@ -43,7 +44,7 @@ void-fields x false false false l =
 void-number : (w : Word) → isVoid w ≡ eqb (unlocked (w .remainder) (w .occupied) (w .virgin) (w .change)) 0
 void-number w = void-fields (w .remainder) (w .occupied) (w .virgin) (w .change) (w .lock)
 
--- of a number z and a bit: z 0 and the bit clear, z 0 and the bit set
+-- with the lock bit above it: it is 0 and the lock clear, it is 0 and the lock set
 zero-and-clear : (z k : ℕ) (l : Bool) → k ≡ z + 32768 * bitOf l → (eqb z 0 && not l) ≡ eqb k 0
 zero-and-clear z k true e = and-false (eqb z 0) ∙ sym (ne-eqb k 0 (λ q. omega arith))
 zero-and-clear z k false e = and-true (eqb z 0) ∙ same-test z 0 k 0 (λ q. omega arith) (λ q. omega arith)
@@ -57,7 +58,7 @@ module _ (n : ℕ) (h : n < 65536) where
   parts : Small (wordOf n) × (numberOf (wordOf n) ≡ n)
   parts = (small (wordOf n) (remainder-small n), number-of-word n h)
 
-  -- what n is without its lock bit
+  -- n, its lock bit aside
   rest : ℕ
   rest = let w = wordOf n in unlocked (w .remainder) (w .occupied) (w .virgin) (w .change)
 
@@ -68,7 +69,8 @@ module _ (n : ℕ) (h : n < 65536) where
   pub void-test : eqb (n % 32768) 0 ≡ isVoid (wordOf n)
   unfolding rest
   void-test =
-      rw (void-number (wordOf n)) (same-test (n % 32768) 0 rest 0 (λ q. omega (arith, rest-is)) (λ q. omega (arith, rest-is)))
+      let lower : n % 32768 ≡ rest = omega (arith, rest-is) in
+      rw (void-number (wordOf n), lower)
 
   pub zero-test : eqb n 0 ≡ isZero (wordOf n)
   unfolding isZero rest

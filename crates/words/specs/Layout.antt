@@ -1,5 +1,6 @@
--- A table's bytes and its words determine each other, at an even length; reading and writing one word of it.
--- So a contract that says the words says every lent byte.
+-- A table's bytes and its words determine each other at an even length: `words-of-bytes`, `bytes-of-words`.
+-- So what a contract says of the words it says of every lent byte: `bytes-are`, `same-bytes`.
+-- `word-at`, `word-set`: one word read and written. `words-length`, `bytes-length`: how many there are.
 -- Assumes nothing.
 use Prim.Native.Nat.{ℕ, zero, suc, _+_, _*_, _/_, _%_, _<_}
 use mathlib.Core.Path.{_≡_, refl, sym, _∙_, ap, ap₂}
@@ -11,7 +12,7 @@ use Rattle.rules.specs.Bytes.{wordsOf, bytesOf}
 use Rattle.rules.specs.Table.{at}
 use Rattle.words.specs.Number.{remainder-small, number-of-word, word-of-number}
 
--- the bytes of place p are 2 p and the next
+-- the bytes of the next place are two further on
 next-low : (p : ℕ) → 2 * suc p ≡ suc (suc (2 * p))
 next-low p = omega arith
 

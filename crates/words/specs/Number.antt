@@ -1,7 +1,8 @@
--- A word and its number determine each other.
+-- A word and its number determine each other: `number-of-word`, `word-of-number`.
+-- `fields`, `word-is`: a number has the fields of its word, and no other word's. `small`: what room each field takes.
 -- Assumes nothing.
 use Prim.Native.Nat.{ℕ, _+_, _*_, _/_, _%_, _<_}
-use mathlib.Core.Path.{_≡_, refl, sym, _∙_, ap}
+use mathlib.Core.Path.{_≡_, refl, sym}
 use mathlib.Core.Bool.{Bool, true, false}
 use native.Mathlib.Omega.{arith}
 use native.Mathlib.Nat.{add-comm, mul-comm}
@@ -11,7 +12,7 @@ use borrow.Author.Tests.{eq-eqb, ne-eqb, eqb-true, eqb-false}
 use Rattle.rules.specs.Lists.{bitOf}
 use Rattle.rules.specs.Word.{Word, wordOf, numberOf}
 
--- a number that is a bit, from the bit to its test and back
+-- a bit as a number, and its test
 tested-bit : (x : ℕ) (b : Bool) → x ≡ bitOf b → eqb x 1 ≡ b
 tested-bit x true e = eq-eqb x 1 e
 tested-bit x false e = ne-eqb x 1 (λ q. omega arith)
@@ -61,7 +62,7 @@ pub bit-small : (b : Bool) → bitOf b < 2
 bit-small true = omega arith
 bit-small false = omega arith
 
--- the fields of a word have room in its number
+-- each field of a word has room in its number
 pub record Small (w : Word) : Type 0 where
   pub remainder : w .remainder < 4096
   pub occupied : bitOf (w .occupied) < 2

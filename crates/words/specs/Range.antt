@@ -1,14 +1,15 @@
--- A shape in range: its numbers' bounds, and the numbers that follow from it.
+-- A shape in range (01, Shape and layout): what its test tells, `in-range`, `range-in`, `good-table`;
+-- and the bounds of the numbers of homes, remainders and keys.
 -- Assumes nothing.
-use Prim.Native.Nat.{ℕ, _+_, _*_, _^_, _≤_, _<_}
-use mathlib.Core.Path.{_≡_, refl, sym, _∙_, ap, ap₂}
+use Prim.Native.Nat.{ℕ, _+_, _*_, _≤_, _<_}
+use mathlib.Core.Path.{_≡_}
 use mathlib.Core.Bool.{true, _&&_, and-eq-true-iff}
 use native.Mathlib.Omega.{arith}
 use lib.Dec.{leb, eqb}
 use lib.Pow.{pow-pos, pow-mono, pow-add}
-use borrow.Author.Tests.{leb-true, le-leb, eqb-true, eq-eqb}
+use borrow.Author.Tests.{leb-true, le-leb, eqb-true}
 use Rattle.rules.specs.declared.Shape.{Shape}
-use Rattle.rules.specs.Shape.{inRange, homes, remainders, keys, places, rightGuard, fitsLength, goodTable}
+use Rattle.rules.specs.Shape.{inRange, homes, remainders, keys, places, fitsLength, goodTable}
 
 -- home bits 1 to 20, remainder bits 1 to 12
 pub record InRange (sh : Shape) : Type 0 where
@@ -20,10 +21,9 @@ pub record InRange (sh : Shape) : Type 0 where
 pub in-range : (sh : Shape) → inRange sh ≡ true → InRange sh
 unfolding inRange
 in-range sh e =
-    let (m-tests, r-tests) =
-    and-eq-true-iff (leb 1 (sh .m) && leb (sh .m) 20) (leb 1 (sh .r) && leb (sh .r) 12) .0 e in
-    let (m-low, m-high) = and-eq-true-iff (leb 1 (sh .m)) (leb (sh .m) 20) .0 m-tests in
-    let (r-low, r-high) = and-eq-true-iff (leb 1 (sh .r)) (leb (sh .r) 12) .0 r-tests in
+    let tests = and-eq-true-iff (leb 1 (sh .m) && leb (sh .m) 20) (leb 1 (sh .r) && leb (sh .r) 12) .0 e in
+    let (m-low, m-high) = and-eq-true-iff (leb 1 (sh .m)) (leb (sh .m) 20) .0 (tests .0) in
+    let (r-low, r-high) = and-eq-true-iff (leb 1 (sh .r)) (leb (sh .r) 12) .0 (tests .1) in
     record {
       m-low = leb-true 1 (sh .m) m-low;
       m-high = leb-true (sh .m) 20 m-high;
@@ -34,7 +34,15 @@ in-range sh e =
 pub range-in : (sh : Shape) → InRange sh → inRange sh ≡ true
 unfolding inRange
 range-in sh s =
-    rw (le-leb 1 (sh .m) (s .m-low), le-leb (sh .m) 20 (s .m-high), le-leb 1 (sh .r) (s .r-low), le-leb (sh .r) 12 (s .r-high))
+    rw (le-leb 1 (sh .m) (s .m-low), le-leb (sh .m) 20 (s .m-high))
+    (rw (le-leb 1 (sh .r) (s .r-low), le-leb (sh .r) 12 (s .r-high)))
+
+-- a table that is good has a shape in range, and two bytes for each place
+pub good-table : (sh : Shape) (n : ℕ) → goodTable sh n ≡ true → InRange sh × (n ≡ 2 * places sh)
+unfolding goodTable fitsLength
+good-table sh n e =
+    let (range, size) = and-eq-true-iff (inRange sh) (eqb n (2 * places sh)) .0 e in
+    (in-range sh range, eqb-true n (2 * places sh) size)
 
 module _ (sh : Shape) where
   pub some-homes : 0 < homes sh
@@ -61,10 +69,3 @@ module _ (sh : Shape) (s : InRange sh) where
   pub keys-high : keys sh ≤ 4294967296
   unfolding keys
   keys-high = pow-mono {i = sh .m + sh .r} {j = 32} (omega arith)
-
--- the table that a call is lent is good: what follows, and back
-pub good-table : (sh : Shape) (n : ℕ) → goodTable sh n ≡ true → InRange sh × (n ≡ 2 * places sh)
-unfolding goodTable fitsLength
-good-table sh n e =
-    let (range, size) = and-eq-true-iff (inRange sh) (eqb n (2 * places sh)) .0 e in
-    (in-range sh range, eqb-true n (2 * places sh) size)

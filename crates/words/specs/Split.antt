@@ -1,7 +1,8 @@
--- A key in range and its home and remainder determine each other.
+-- A key and its entry determine each other: `join-split`, and `split-join` for an entry in the shape.
+-- `split-in-shape`, `join-below`: a key in range has such an entry, and such an entry a key in range.
 -- Assumes nothing.
-use Prim.Native.Nat.{ℕ, _+_, _-_, _*_, _/_, _%_, _≤_, _<_}
-use mathlib.Core.Path.{_≡_, refl, sym, _∙_, ap, ap₂}
+use Prim.Native.Nat.{ℕ, _+_, _-_, _≤_, _<_}
+use mathlib.Core.Path.{_≡_}
 use native.Mathlib.Omega.{arith}
 use native.Mathlib.Nat.{div-add-mod', div-lt-iff-lt-mul, mod-lt, add-sub-cancel}
 use lib.Arith.{digits-div, digits-mod, digits-lt}
@@ -48,6 +49,6 @@ module _ (sh : Shape) (e : Entry) (i : InShape sh e) where
       let home-number : e .home - 1 < homes sh = omega arith in
       rw keys-are (digits-lt home-number (i .remainder-low))
 
--- and so nothing wraps where a key is joined in 32 bits
+-- so a key that is joined fits 32 bits
 pub join-fits : (sh : Shape) (e : Entry) → InRange sh → InShape sh e → join sh e < 4294967296
 join-fits sh e range i = omega (arith, join-below sh e i, keys-high sh range)

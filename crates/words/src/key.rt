@@ -5,7 +5,7 @@ use crate::place::place_of_home;
 use crate::shape::remainders;
 use rules::Shape;
 ghost use mathlib.Core.Path.{_≡_};
-ghost use Prim.Native.Nat.{_≤_, _<_};
+ghost use Prim.Native.Nat.{_<_};
 ghost use lib.Dec.{ltb};
 ghost use Rattle.rules.specs.Shape.{keys};
 ghost use Rattle.rules.specs.Entry as entry;

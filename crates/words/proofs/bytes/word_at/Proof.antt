@@ -35,7 +35,8 @@ returns : tie.Need-returns
 returns c =
     let located = c .before .before .before .before in
     let start = located .before .before in
-    word-at (now (start .args .table)) (start .args .p .0) _ (start .pre) (rw (← located .low-byte .ensures) (omega arith))
+    word-at (now (start .args .table)) (start .args .p .0) _ (start .pre)
+    (rw (← located .low-byte .ensures) (omega arith))
 
 pub word-at-spec : {M : Type 1} → statement M
 word-at-spec =

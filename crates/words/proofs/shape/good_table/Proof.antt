@@ -1,8 +1,7 @@
 -- `good_table` meets its contract: the shape is in range, and the length two bytes for each place.
 -- Assumes nothing.
 use borrow.Author.Needs.{needs}
-use mathlib.Core.Path.{sym, _∙_, ap}
-use lib.Dec.{eqb}
+use mathlib.Core.Path.{sym, _∙_}
 use Rattle.rules.specs.Shape.{homes, places, fitsLength, goodTable}
 use Rattle.words.specs.Range.{in-range}
 use Rattle.words.proofs.shape.good_table.Statement.{statement}
