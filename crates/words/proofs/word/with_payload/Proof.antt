@@ -1,7 +1,7 @@
 -- `with_payload` meets its contract by the law of the exchanged fields.
 -- Assumes nothing.
 use borrow.Author.Needs.{needs}
-use mathlib.Core.Path.{refl}
+use native.Mathlib.Omega.{arith}
 use Rattle.words.specs.Change.{with-payload}
 use Rattle.words.proofs.word.with_payload.Statement.{statement}
 use Rattle.words.proofs.word.with_payload.Tie as tie
@@ -25,7 +25,7 @@ add-result-3 : tie.Need-add-result-3
 add-result-3 c = search needs
 
 returns : tie.Need-returns
-returns c = with-payload (c .args .w) (c .fits .w .fits) (c .args .v) _ refl
+returns c = with-payload (c .args .w) (c .fits .w .fits) (c .args .v) _ (omega arith)
 
 pub with-payload-spec : {M : Type 1} → statement M
 with-payload-spec =
