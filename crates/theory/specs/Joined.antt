@@ -110,7 +110,7 @@ lay-whole whole other p (e ∷ es) same =
     later i lt = subst (λ (x : ℕ). hasHome whole x ≡ hasHome other x) (omega arith) (same (suc i) (omega arith))
 
 -- ---- two adjoining runs are one
-or-none : (a : Bool) → (a || false) ≡ a
+pub or-none : (a : Bool) → (a || false) ≡ a
 or-none true = refl
 or-none false = refl
 

@@ -12,7 +12,9 @@ pub mod Order
 pub mod Places
 pub mod SoundTable
 pub mod Pairs
+pub mod Finding
 pub mod Adding
+pub mod Putting
 pub mod Motion
 pub mod Region
 pub mod Payload

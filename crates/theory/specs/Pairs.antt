@@ -21,7 +21,7 @@ use Rattle.theory.specs.Run.{code, Asc, none, next, unlock, Run}
 use Rattle.theory.specs.Dealt.{isOccupied, and-left, and-right, word-path}
 use Rattle.theory.specs.Order.{taken}
 use Rattle.theory.specs.Insert.{asc-weaken, asc-append, asc-below}
-use Rattle.theory.specs.Joined.{map-append, has-home-append, has-home-left, has-home-right, lay-append, lay-whole}
+use Rattle.theory.specs.Joined.{map-append, has-home-append, has-home-left, has-home-right, lay-append, lay-whole, or-none}
 use Rattle.theory.specs.RunLaws.{run-occupied}
 use Rattle.theory.specs.Places.{void-free}
 use Rattle.theory.specs.Seen.{Right, right-end, right-more, Table, table, right-asc}
@@ -99,10 +99,6 @@ right-tight {d} {p} (right-more run g v xs ys r void rest e f) =
 -- homes of a part, where they are those of the whole from a place on
 abbrev HomesFrom : List Entry → ℕ → List Entry → Type 0
 HomesFrom whole p es = (x : ℕ) → p ≤ x → hasHome whole x ≡ hasHome es x
-
-or-none : (a : Bool) → (a || false) ≡ a
-or-none true = refl
-or-none false = refl
 
 homes-here :
     {d c c′ p : ℕ} (whole xs ys : List Entry) →

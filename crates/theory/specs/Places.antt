@@ -8,7 +8,7 @@ use mathlib.Core.Bool.{Bool, true, false, not, _&&_}
 use mathlib.Core.List.{List, [], _∷_, _++_, append-assoc, map}
 use native.Mathlib.Omega.{arith}
 use native.Mathlib.Nat.{le-refl, le-trans}
-use lib.ListN.{length, getD, take, drop, length-append, length-take, drop-of-length-le, List·getD-append, List·getD-map}
+use lib.ListN.{length, getD, take, drop, length-append, length-take, drop-of-length-le, List·getD-append, List·getD-map, length-map}
 use lib.Dec.{eqb}
 use lib.Seq.{slice, getD-append-seam, getD-append-add, take-append-add, take-append-seam, drop-append-seam, slice-empty}
 use Rattle.rules.specs.Lists.{all}
@@ -44,6 +44,10 @@ all-at f (w ∷ ws) (suc i) h lt = all-at f ws i (and-right (f w) _ h) (omega ar
 pub occupied-at : (ws : List Word) (p : ℕ) → getD (occupied ws) p false ≡ at ws p .occupied
 unfolding occupied
 occupied-at ws p = List·getD-map isOccupied ws p zeroWord
+
+pub occupied-length : (ws : List Word) → length (occupied ws) ≡ length ws
+unfolding occupied
+occupied-length ws = length-map ws isOccupied
 
 -- ---- words at a place of an append
 pub at-seam : (u : List Word) (g : Word) (v : List Word) → at (u ++ (g ∷ v)) (length u) ≡ g
@@ -112,7 +116,7 @@ module _ (u : List Word) (g : Word) (run : List Word) (h : Word) (v : List Word)
     abbrev ws : List Word
     ws = u ++ (g ∷ (run ++ (h ∷ v)))
 
-    run-taken : (q : ℕ) → length u < q → q < suc (length u) + length run → Taken (occupied ws) q
+    pub run-taken : (q : ℕ) → length u < q → q < suc (length u) + length run → Taken (occupied ws) q
     run-taken q low high =
         occupied-at ws q
         ∙ ap (λ (p : ℕ). at ws p .occupied) (sym place)

@@ -53,7 +53,7 @@ entries-append ws p (x ∷ xs) ys =
     go true = refl
     go false = refl
 
-nothing-sound : (sh : Shape) → soundRun sh [] ≡ true
+pub nothing-sound : (sh : Shape) → soundRun sh [] ≡ true
 unfolding soundRun count endsInChange all rising
 nothing-sound sh = refl
 

@@ -1,0 +1,235 @@
+-- Put on an unlocked table: a shown key is found, a full table is full, and otherwise the key is added at the place that the rule
+-- names. `Puts` has the cases; `put-table` says which holds.
+-- Assumes nothing.
+use Prim.Native.Nat.{ℕ, zero, suc, _+_, _*_, _≤_, _<_, min}
+use mathlib.Core.Path.{_≡_, refl, sym, ap, ap₂, _∙_, subst, subst₂}
+use mathlib.Core.Bool.{Bool, true, false, cond, true≢false}
+use mathlib.Core.List.{List, [], _∷_, _++_, append-assoc}
+use native.Mathlib.Omega.{arith}
+use native.Mathlib.Nat.{le-refl}
+use lib.ListN.{length, getD, take, drop, set, replicate, length-append, length-replicate}
+use lib.Seq.{sets, sets-eq, take-at, drop-at}
+use Rattle.rules.specs.declared.Shape.{Shape}
+use Rattle.rules.specs.Lists.{all}
+use Rattle.rules.specs.Word.{Word, isVoid}
+use Rattle.rules.specs.Entry.{Entry}
+use Rattle.rules.specs.Shape.{homes, remainders, places, rightGuard}
+use Rattle.rules.specs.Table.{at, occupied, leftGap, rightGap, clusterEntries, guardsVoid, locked}
+use Rattle.rules.specs.Room.{Room, place, full, roomFor}
+use Rattle.rules.specs.Lay.{holds, insert}
+use Rattle.rules.specs.Answer.{Answer, says, refuses}
+use Rattle.rules.specs.Put.{layRun, enlargedFrom, addAt, Outcome, keeps, writes, addTo, putIn}
+use Rattle.theory.specs.Run.{Run}
+use Rattle.theory.specs.Dealt.{isOccupied, and-left, and-right}
+use Rattle.theory.specs.RunLaws.{run-occupied, run-entries}
+use Rattle.theory.specs.Insert.{insert-length}
+use Rattle.theory.specs.Pairs.{lay-length}
+use Rattle.theory.specs.SoundTable.{table-guards}
+use Rattle.theory.specs.Gaps.{Free, Taken, Guarded, HomePlace, Chosen, room-chosen}
+use Rattle.theory.specs.Gaps as gaps
+use Rattle.theory.specs.Seen.{Table, AtGap, InRun, Located, at-gap, in-run, locate}
+use Rattle.theory.specs.Places.{void-free, occupied-at, occupied-length, gap-left, gap-right, gap-entries}
+use Rattle.theory.specs.Places.{run-taken, run-left, run-right, run-cluster-entries}
+use Rattle.theory.specs.Finding.{origin, Surroundings, surroundings, around-free}
+use Rattle.theory.specs.Adding.{Added, add-home, add-left, add-right}
+
+-- a stretch of words replaced by as many others
+pub spliced :
+  (u mid v l : List Word) (p : ℕ) → p ≡ length u → length l ≡ length mid → sets (u ++ (mid ++ v)) p l ≡ u ++ (l ++ v)
+spliced u mid v l p at size =
+    sets-eq l (u ++ (mid ++ v)) p (omega (arith, length-append u (mid ++ v), length-append mid v))
+    ∙ ap₂
+    (λ (x y : List Word). (x ++ l) ++ y)
+    (take-at u (mid ++ v) p (sym at))
+    (ap (drop (p + length l)) (sym (append-assoc u mid v))
+    ∙ drop-at (u ++ mid) v (p + length l) (omega (arith, length-append u mid)))
+    ∙ append-assoc u l v
+
+-- ---- what the definition of adding gives, seen from the home
+lay-run-length : (a : ℕ) (es : List Entry) → length (layRun a es) ≡ length es
+unfolding layRun
+lay-run-length a es = lay-length es a (replicate (length es) true) es ∙ length-replicate (length es) true
+
+-- adding from the enlarged cluster's first place, and the cluster's entries
+add-from :
+  (ws : List Word) (e : Entry) (p a : ℕ) (ys : List Entry) →
+  enlargedFrom ws (e .home) p ≡ a →
+  clusterEntries ws (e .home) ≡ ys → addAt ws e p ≡ sets ws a (layRun a (insert e ys))
+unfolding addAt
+add-from ws e p a ys from here =
+    ap₂ (λ (n : ℕ) (xs : List Entry). sets ws n (layRun n (insert e xs))) from here
+
+added-home :
+  {d : ℕ} {ws : List Word} {es : List Entry} (e : Entry) (t : AtGap d ws es (e .home)) →
+  d ≤ 4096 →
+  e .remainder < d →
+  at ws 0 .occupied ≡ false →
+  0 < length (t .u) → 0 < length (t .v) → Added d ws es e (e .home) (addAt ws e (e .home))
+unfolding enlargedFrom insert
+added-home {d} {ws} {es} e t s low start some more =
+    subst₂
+    (Added d ws es e)
+    (sym (t .here))
+    (sym
+    (add-from
+    ws
+    e
+    (e .home)
+    (length (t .u))
+    []
+    first
+    (ap₂ clusterEntries (t .words) (t .here) ∙ gap-entries (t .u) (t .g) (t .v) empty origin-here)
+    ∙ ap (λ (vs : List Word). sets vs (length (t .u)) (layRun (length (t .u)) (insert e []))) (t .words)
+    ∙ spliced
+    (t .u)
+    (t .g ∷ [])
+    (t .v)
+    (layRun (length (t .u)) (insert e []))
+    (length (t .u))
+    refl
+    (lay-run-length (length (t .u)) (e ∷ []))))
+    (add-home e t s low some more)
+  where
+    empty : t .g .occupied ≡ false
+    empty = void-free (t .g) (t .void)
+    origin-here : at (t .u ++ (t .g ∷ t .v)) 0 .occupied ≡ false
+    origin-here = sym (ap (λ (vs : List Word). at vs 0 .occupied) (t .words)) ∙ start
+    gap : leftGap (occupied ws) (e .home) ≡ length (t .u)
+    gap =
+        ap₂ (λ (vs : List Word) (q : ℕ). leftGap (occupied vs) q) (t .words) (t .here)
+        ∙ gap-left (t .u) (t .g) (t .v) empty origin-here
+    first : enlargedFrom ws (e .home) (e .home) ≡ length (t .u)
+    first = omega (arith, gap, t .here)
+
+-- the gaps and the entries of the home's cluster
+pub record Sees {d : ℕ} {ws : List Word} {es : List Entry} {p : ℕ} (t : InRun d ws es p) : Type 0 where
+  pub left : leftGap (occupied ws) p ≡ length (t .u)
+  pub right : rightGap (occupied ws) p ≡ suc (length (t .u)) + length (t .run)
+  pub entries : clusterEntries ws p ≡ t .ys
+  pub taken : Taken (occupied ws) p
+
+pub sees :
+  {d : ℕ} {ws : List Word} {es : List Entry} {p : ℕ} (t : InRun d ws es p) →
+  d ≤ 4096 → at ws 0 .occupied ≡ false → Sees t
+sees {d} {ws} {es} {p} t s start =
+    record {
+      left =
+        ap (λ (vs : List Word). leftGap (occupied vs) p) (t .words)
+        ∙ run-left (t .u) (t .g) (t .run) (t .h) (t .v) empty occ hollow origin-here p (t .after) (t .before);
+      right =
+        ap (λ (vs : List Word). rightGap (occupied vs) p) (t .words)
+        ∙ run-right (t .u) (t .g) (t .run) (t .h) (t .v) empty occ hollow origin-here p (t .after) (t .before);
+      entries =
+        ap (λ (vs : List Word). clusterEntries vs p) (t .words)
+        ∙ run-cluster-entries
+        (t .u)
+        (t .g)
+        (t .run)
+        (t .h)
+        (t .v)
+        empty
+        occ
+        hollow
+        origin-here
+        p
+        (t .after)
+        (t .before)
+        ∙ run-entries s (t .inside);
+      taken =
+        ap (λ (vs : List Word). getD (occupied vs) p false) (t .words)
+        ∙ run-taken (t .u) (t .g) (t .run) (t .h) (t .v) empty occ hollow origin-here p (t .after) (t .before)
+    }
+  where
+    empty : t .g .occupied ≡ false
+    empty = void-free (t .g) (t .void)
+    hollow : t .h .occupied ≡ false
+    hollow = void-free (t .h) (t .hollow)
+    occ : all isOccupied (t .run) ≡ true
+    occ = run-occupied (t .inside)
+    origin-here : at (t .u ++ (t .g ∷ (t .run ++ (t .h ∷ t .v)))) 0 .occupied ≡ false
+    origin-here = sym (ap (λ (vs : List Word). at vs 0 .occupied) (t .words)) ∙ start
+
+added-left :
+  {d : ℕ} {ws : List Word} {es : List Entry} (e : Entry) (t : InRun d ws es (e .home)) →
+  Sees t →
+  d ≤ 4096 →
+  e .remainder < d →
+  holds e (t .ys) ≡ false →
+  0 < length (t .u) → Added d ws es e (leftGap (occupied ws) (e .home)) (addAt ws e (leftGap (occupied ws) (e .home)))
+unfolding enlargedFrom
+added-left {d} {ws} {es} e t look s low absent some =
+    subst₂
+    (Added d ws es e)
+    (sym (look .left))
+    (sym
+    (add-from ws e (leftGap (occupied ws) (e .home)) (length (t .u)) (t .ys) (omega (arith, look .left)) (look .entries)
+    ∙ ap (λ (vs : List Word). sets vs (length (t .u)) l) (t .words)
+    ∙ spliced (t .u) (t .g ∷ t .run) (t .h ∷ t .v) l (length (t .u)) refl long))
+    (add-left e t s low absent some)
+  where
+    l : List Word
+    l = layRun (length (t .u)) (insert e (t .ys))
+    long : length l ≡ suc (length (t .run))
+    long = lay-run-length (length (t .u)) (insert e (t .ys)) ∙ insert-length e (t .ys) absent ∙ ap suc (t .inside .size)
+
+added-right :
+  {d : ℕ} {ws : List Word} {es : List Entry} (e : Entry) (t : InRun d ws es (e .home)) →
+  Sees t →
+  d ≤ 4096 →
+  e .remainder < d →
+  holds e (t .ys) ≡ false →
+  0 < length (t .v) → Added d ws es e (rightGap (occupied ws) (e .home)) (addAt ws e (rightGap (occupied ws) (e .home)))
+unfolding enlargedFrom
+added-right {d} {ws} {es} e t look s low absent more =
+    subst₂
+    (Added d ws es e)
+    (sym (look .right))
+    (sym
+    (add-from
+    ws
+    e
+    (rightGap (occupied ws) (e .home))
+    (suc (length (t .u)))
+    (t .ys)
+    (omega (arith, look .left, look .right))
+    (look .entries)
+    ∙ ap (λ (vs : List Word). sets vs (suc (length (t .u))) l) (t .words ∙ parts)
+    ∙ spliced (t .u ++ (t .g ∷ [])) (t .run ++ (t .h ∷ [])) (t .v) l (suc (length (t .u))) first long
+    ∙ append-assoc (t .u) (t .g ∷ []) (l ++ t .v)))
+    (add-right e t s low absent more)
+  where
+    l : List Word
+    l = layRun (suc (length (t .u))) (insert e (t .ys))
+    parts :
+      t .u ++ (t .g ∷ (t .run ++ (t .h ∷ t .v))) ≡ (t .u ++ (t .g ∷ [])) ++ ((t .run ++ (t .h ∷ [])) ++ t .v)
+    parts =
+        ap (λ (vs : List Word). t .u ++ (t .g ∷ vs)) (sym (append-assoc (t .run) (t .h ∷ []) (t .v)))
+        ∙ sym (append-assoc (t .u) (t .g ∷ []) ((t .run ++ (t .h ∷ [])) ++ t .v))
+    first : suc (length (t .u)) ≡ length (t .u ++ (t .g ∷ []))
+    first = omega (arith, length-append (t .u) (t .g ∷ []))
+    long : length l ≡ length (t .run ++ (t .h ∷ []))
+    long =
+        lay-run-length (suc (length (t .u))) (insert e (t .ys))
+        ∙ insert-length e (t .ys) absent
+        ∙ omega (arith, t .inside .size, length-append (t .run) (t .h ∷ []))
+
+-- ---- put
+pub data Puts (sh : Shape) (ws : List Word) (es : List Entry) (e : Entry) : Outcome → Type 0 where
+  found : holds e es ≡ true → Puts sh ws es e (keeps (says 1))
+  inserted :
+    (p : ℕ) →
+    holds e es ≡ false →
+    roomFor sh (occupied ws) (e .home) ≡ place p →
+    Added (remainders sh) ws es e p (addAt ws e p) → Puts sh ws es e (writes (says 2) (addAt ws e p))
+  overflow : holds e es ≡ false → roomFor sh (occupied ws) (e .home) ≡ full → Puts sh ws es e (keeps (refuses 8))
+
+pub table-guarded :
+  (sh : Shape) {ws : List Word} {es : List Entry} →
+  length ws ≡ places sh → Table (remainders sh) ws es → Guarded sh (occupied ws)
+unfolding guardsVoid
+table-guarded sh {ws} size t =
+    record {
+      size = occupied-length ws ∙ size;
+      left = occupied-at ws 0 ∙ void-free _ (and-left (isVoid (at ws 0)) _ (table-guards sh size t));
+      right = occupied-at ws (rightGuard sh) ∙ void-free _ (and-right (isVoid (at ws 0)) _ (table-guards sh size t))
+    }
