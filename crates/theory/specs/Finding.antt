@@ -47,12 +47,12 @@ origin (table {g = g} void right) = void-free g void
 
 -- soundness of the surroundings from their parts
 sound-parts :
-  (sh : Shape) (ws : List Word) (p l r : ℕ) (run : List Word) →
-  guardsVoid sh ws ≡ true →
-  leftGap (occupied ws) p ≡ l →
-  rightGap (occupied ws) p ≡ r →
-  cluster ws p ≡ run →
-  isVoid (at ws l) ≡ true → isVoid (at ws r) ≡ true → soundRun sh run ≡ true → soundAround sh ws p ≡ true
+    (sh : Shape) (ws : List Word) (p l r : ℕ) (run : List Word) →
+    guardsVoid sh ws ≡ true →
+    leftGap (occupied ws) p ≡ l →
+    rightGap (occupied ws) p ≡ r →
+    cluster ws p ≡ run →
+    isVoid (at ws l) ≡ true → isVoid (at ws r) ≡ true → soundRun sh run ≡ true → soundAround sh ws p ≡ true
 unfolding soundAround
 sound-parts sh ws p l r run guards left right mid void hollow snd =
     and-both
@@ -66,110 +66,117 @@ sound-parts sh ws p l r run guards left right mid void hollow snd =
     (ap (soundRun sh) mid ∙ snd)
 
 gap-surroundings :
-  (sh : Shape) {ws : List Word} {es : List Entry} (e : Entry) →
-  remainders sh ≤ 4096 →
-  e .remainder < remainders sh →
-  guardsVoid sh ws ≡ true → at ws 0 .occupied ≡ false → AtGap (remainders sh) ws es (e .home) → Surroundings sh ws es e
+    (sh : Shape) {ws : List Word} {es : List Entry} (e : Entry) →
+    remainders sh ≤ 4096 →
+    e .remainder < remainders sh →
+    guardsVoid sh ws ≡ true → at ws 0 .occupied ≡ false → AtGap (remainders sh) ws es (e .home) → Surroundings sh ws es e
 unfolding holds any
 gap-surroundings sh {ws} {es} e s low guards free t =
     record {
       sound =
-        subst₂
-        (λ (vs : List Word) (q : ℕ). soundAround sh vs q ≡ true)
-        (sym (t .words))
-        (sym (t .here))
-        (sound-parts
-        sh
-        vs
-        n
-        n
-        n
-        []
-        (sym (ap (guardsVoid sh) (t .words)) ∙ guards)
-        (gap-left (t .u) (t .g) (t .v) empty start)
-        (gap-right (t .u) (t .g) (t .v) empty start)
-        (gap-cluster (t .u) (t .g) (t .v) empty start)
-        (ap isVoid (at-seam (t .u) (t .g) (t .v)) ∙ t .void)
-        (ap isVoid (at-seam (t .u) (t .g) (t .v)) ∙ t .void)
-        (nothing-sound sh));
+          subst₂
+          (λ (vs : List Word) (q : ℕ). soundAround sh vs q ≡ true)
+          (sym (t .words))
+          (sym (t .here))
+          (sound-parts
+          sh
+          vs
+          n
+          n
+          n
+          []
+          (sym (ap (guardsVoid sh) (t .words)) ∙ guards)
+          (gap-left (t .u) (t .g) (t .v) empty start)
+          (gap-right (t .u) (t .g) (t .v) empty start)
+          (gap-cluster (t .u) (t .g) (t .v) empty start)
+          (ap isVoid (at-seam (t .u) (t .g) (t .v)) ∙ t .void)
+          (ap isVoid (at-seam (t .u) (t .g) (t .v)) ∙ t .void)
+          (nothing-sound sh));
       same =
-        ap₂ (λ (xs : List Word) (q : ℕ). holds e (clusterEntries xs q)) (t .words) (t .here)
-        ∙ ap (holds e) (gap-entries (t .u) (t .g) (t .v) empty start)
-        ∙ sym
-        (ap (holds e) (t .shown)
-        ∙ holds-append e (t .xs) (t .ys)
-        ∙ ap₂
-        _||_
-        (holds-right e (left-asc s (t .left)) (omega (arith, t .here)))
-        (holds-below e (right-asc s (t .right)) (omega (arith, t .here))))
+          ap₂ (λ (xs : List Word) (q : ℕ). holds e (clusterEntries xs q)) (t .words) (t .here)
+          ∙ ap (holds e) (gap-entries (t .u) (t .g) (t .v) empty start)
+          ∙ sym
+          (ap (holds e) (t .shown)
+          ∙ holds-append e (t .xs) (t .ys)
+          ∙ ap₂
+          _||_
+          (holds-right e (left-asc s (t .left)) (omega (arith, t .here)))
+          (holds-below e (right-asc s (t .right)) (omega (arith, t .here))));
     }
   where
     vs : List Word
     vs = t .u ++ (t .g ∷ t .v)
+
     n : ℕ
     n = length (t .u)
+
     empty : t .g .occupied ≡ false
     empty = void-free (t .g) (t .void)
+
     start : at vs 0 .occupied ≡ false
     start = sym (ap (λ (xs : List Word). at xs 0 .occupied) (t .words)) ∙ free
 
 run-surroundings :
-  (sh : Shape) {ws : List Word} {es : List Entry} (e : Entry) →
-  remainders sh ≤ 4096 →
-  e .remainder < remainders sh →
-  guardsVoid sh ws ≡ true → at ws 0 .occupied ≡ false → InRun (remainders sh) ws es (e .home) → Surroundings sh ws es e
+    (sh : Shape) {ws : List Word} {es : List Entry} (e : Entry) →
+    remainders sh ≤ 4096 →
+    e .remainder < remainders sh →
+    guardsVoid sh ws ≡ true → at ws 0 .occupied ≡ false → InRun (remainders sh) ws es (e .home) → Surroundings sh ws es e
 run-surroundings sh {ws} {es} e s low guards free t =
     record {
       sound =
-        subst
-        (λ (xs : List Word). soundAround sh xs (e .home) ≡ true)
-        (sym (t .words))
-        (sound-parts
-        sh
-        vs
-        (e .home)
-        (length (t .u))
-        (suc (length (t .u)) + length (t .run))
-        (t .run)
-        (sym (ap (guardsVoid sh) (t .words)) ∙ guards)
-        (run-left (t .u) (t .g) (t .run) (t .h) (t .v) empty taken hollow start (e .home) (t .after) (t .before))
-        (run-right (t .u) (t .g) (t .run) (t .h) (t .v) empty taken hollow start (e .home) (t .after) (t .before))
-        (run-cluster (t .u) (t .g) (t .run) (t .h) (t .v) empty taken hollow start (e .home) (t .after) (t .before))
-        (ap isVoid (at-seam (t .u) (t .g) (t .run ++ (t .h ∷ t .v))) ∙ t .void)
-        (ap isVoid (at-after (t .u) (t .g) (t .run ++ (t .h ∷ t .v)) (length (t .run)) ∙ at-seam (t .run) (t .h) (t .v)) ∙ t .hollow)
-        (run-is-sound sh s (t .inside)));
+          subst
+          (λ (xs : List Word). soundAround sh xs (e .home) ≡ true)
+          (sym (t .words))
+          (sound-parts
+          sh
+          vs
+          (e .home)
+          (length (t .u))
+          (suc (length (t .u)) + length (t .run))
+          (t .run)
+          (sym (ap (guardsVoid sh) (t .words)) ∙ guards)
+          (run-left (t .u) (t .g) (t .run) (t .h) (t .v) empty taken hollow start (e .home) (t .after) (t .before))
+          (run-right (t .u) (t .g) (t .run) (t .h) (t .v) empty taken hollow start (e .home) (t .after) (t .before))
+          (run-cluster (t .u) (t .g) (t .run) (t .h) (t .v) empty taken hollow start (e .home) (t .after) (t .before))
+          (ap isVoid (at-seam (t .u) (t .g) (t .run ++ (t .h ∷ t .v))) ∙ t .void)
+          (ap isVoid (at-after (t .u) (t .g) (t .run ++ (t .h ∷ t .v)) (length (t .run)) ∙ at-seam (t .run) (t .h) (t .v)) ∙ t .hollow)
+          (run-is-sound sh s (t .inside)));
       same =
-        ap (λ (xs : List Word). holds e (clusterEntries xs (e .home))) (t .words)
-        ∙ ap (holds e)
-        (run-cluster-entries (t .u) (t .g) (t .run) (t .h) (t .v) empty taken hollow start (e .home) (t .after) (t .before) ∙ run-entries s (t .inside))
-        ∙ sym
-        (ap (holds e) (t .shown)
-        ∙ holds-append e (t .xs) (t .ys ++ t .zs)
-        ∙ ap₂
-        _||_
-        (holds-right e (left-asc s (t .left)) (omega (arith, t .after)))
-        (holds-append e (t .ys) (t .zs)
-        ∙ ap (λ (b : Bool). holds e (t .ys) || b) (holds-below e (right-asc s (t .right)) (omega (arith, t .before)))
-        ∙ or-none (holds e (t .ys))))
+          ap (λ (xs : List Word). holds e (clusterEntries xs (e .home))) (t .words)
+          ∙ ap (holds e)
+          (run-cluster-entries (t .u) (t .g) (t .run) (t .h) (t .v) empty taken hollow start (e .home) (t .after) (t .before) ∙ run-entries s (t .inside))
+          ∙ sym
+          (ap (holds e) (t .shown)
+          ∙ holds-append e (t .xs) (t .ys ++ t .zs)
+          ∙ ap₂
+          _||_
+          (holds-right e (left-asc s (t .left)) (omega (arith, t .after)))
+          (holds-append e (t .ys) (t .zs)
+          ∙ ap (λ (b : Bool). holds e (t .ys) || b) (holds-below e (right-asc s (t .right)) (omega (arith, t .before)))
+          ∙ or-none (holds e (t .ys))));
     }
   where
     vs : List Word
     vs = t .u ++ (t .g ∷ (t .run ++ (t .h ∷ t .v)))
+
     empty : t .g .occupied ≡ false
     empty = void-free (t .g) (t .void)
+
     hollow : t .h .occupied ≡ false
     hollow = void-free (t .h) (t .hollow)
+
     taken : all isOccupied (t .run) ≡ true
     taken = run-occupied (t .inside)
+
     start : at vs 0 .occupied ≡ false
     start = sym (ap (λ (xs : List Word). at xs 0 .occupied) (t .words)) ∙ free
 
 pub surroundings :
-  (sh : Shape) {ws : List Word} {es : List Entry} (e : Entry) →
-  remainders sh ≤ 4096 →
-  length ws ≡ places sh →
-  HomePlace sh (e .home) →
-  e .remainder < remainders sh → Table (remainders sh) ws es → Surroundings sh ws es e
+    (sh : Shape) {ws : List Word} {es : List Entry} (e : Entry) →
+    remainders sh ≤ 4096 →
+    length ws ≡ places sh →
+    HomePlace sh (e .home) →
+    e .remainder < remainders sh → Table (remainders sh) ws es → Surroundings sh ws es e
 unfolding places
 surroundings sh {ws} {es} e s size k low t = go (locate (e .home) t (omega arith))
   where
@@ -204,12 +211,12 @@ around-free ws p free = any-drop _ (leftGap (occupied ws) p) _ (any-take _ (suc 
 
 -- find on an unlocked table says present exactly for the entries that it shows
 pub find-table :
-  (sh : Shape) {ws : List Word} {es : List Entry} (e : Entry) →
-  remainders sh ≤ 4096 →
-  length ws ≡ places sh →
-  HomePlace sh (e .home) →
-  e .remainder < remainders sh →
-  Table (remainders sh) ws es → locked ws ≡ false → findIn sh ws e ≡ says (bitOf (holds e es))
+    (sh : Shape) {ws : List Word} {es : List Entry} (e : Entry) →
+    remainders sh ≤ 4096 →
+    length ws ≡ places sh →
+    HomePlace sh (e .home) →
+    e .remainder < remainders sh →
+    Table (remainders sh) ws es → locked ws ≡ false → findIn sh ws e ≡ says (bitOf (holds e es))
 unfolding findIn
 find-table sh {ws} e s size k low t free =
     let look = surroundings sh e s size k low t in

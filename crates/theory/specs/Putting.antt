@@ -28,14 +28,14 @@ use Rattle.theory.specs.SoundTable.{table-guards}
 use Rattle.theory.specs.Gaps.{Free, Taken, Guarded, HomePlace, Chosen, room-chosen}
 use Rattle.theory.specs.Gaps as gaps
 use Rattle.theory.specs.Seen.{Table, AtGap, InRun, Located, at-gap, in-run, locate}
-use Rattle.theory.specs.Places.{void-free, occupied-at, occupied-length, gap-left, gap-right, gap-entries}
+use Rattle.theory.specs.Places.{void-free, occupied-at, occupied-length, at-seam, gap-left, gap-right, gap-entries}
 use Rattle.theory.specs.Places.{run-taken, run-left, run-right, run-cluster-entries}
 use Rattle.theory.specs.Finding.{origin, Surroundings, surroundings, around-free}
 use Rattle.theory.specs.Adding.{Added, add-home, add-left, add-right}
 
 -- a stretch of words replaced by as many others
 pub spliced :
-  (u mid v l : List Word) (p : ℕ) → p ≡ length u → length l ≡ length mid → sets (u ++ (mid ++ v)) p l ≡ u ++ (l ++ v)
+    (u mid v l : List Word) (p : ℕ) → p ≡ length u → length l ≡ length mid → sets (u ++ (mid ++ v)) p l ≡ u ++ (l ++ v)
 spliced u mid v l p at size =
     sets-eq l (u ++ (mid ++ v)) p (omega (arith, length-append u (mid ++ v), length-append mid v))
     ∙ ap₂
@@ -52,19 +52,19 @@ lay-run-length a es = lay-length es a (replicate (length es) true) es ∙ length
 
 -- adding from the enlarged cluster's first place, and the cluster's entries
 add-from :
-  (ws : List Word) (e : Entry) (p a : ℕ) (ys : List Entry) →
-  enlargedFrom ws (e .home) p ≡ a →
-  clusterEntries ws (e .home) ≡ ys → addAt ws e p ≡ sets ws a (layRun a (insert e ys))
+    (ws : List Word) (e : Entry) (p a : ℕ) (ys : List Entry) →
+    enlargedFrom ws (e .home) p ≡ a →
+    clusterEntries ws (e .home) ≡ ys → addAt ws e p ≡ sets ws a (layRun a (insert e ys))
 unfolding addAt
 add-from ws e p a ys from here =
     ap₂ (λ (n : ℕ) (xs : List Entry). sets ws n (layRun n (insert e xs))) from here
 
 added-home :
-  {d : ℕ} {ws : List Word} {es : List Entry} (e : Entry) (t : AtGap d ws es (e .home)) →
-  d ≤ 4096 →
-  e .remainder < d →
-  at ws 0 .occupied ≡ false →
-  0 < length (t .u) → 0 < length (t .v) → Added d ws es e (e .home) (addAt ws e (e .home))
+    {d : ℕ} {ws : List Word} {es : List Entry} (e : Entry) (t : AtGap d ws es (e .home)) →
+    d ≤ 4096 →
+    e .remainder < d →
+    at ws 0 .occupied ≡ false →
+    0 < length (t .u) → 0 < length (t .v) → Added d ws es e (e .home) (addAt ws e (e .home))
 unfolding enlargedFrom insert
 added-home {d} {ws} {es} e t s low start some more =
     subst₂
@@ -92,12 +92,15 @@ added-home {d} {ws} {es} e t s low start some more =
   where
     empty : t .g .occupied ≡ false
     empty = void-free (t .g) (t .void)
+
     origin-here : at (t .u ++ (t .g ∷ t .v)) 0 .occupied ≡ false
     origin-here = sym (ap (λ (vs : List Word). at vs 0 .occupied) (t .words)) ∙ start
+
     gap : leftGap (occupied ws) (e .home) ≡ length (t .u)
     gap =
         ap₂ (λ (vs : List Word) (q : ℕ). leftGap (occupied vs) q) (t .words) (t .here)
         ∙ gap-left (t .u) (t .g) (t .v) empty origin-here
+
     first : enlargedFrom ws (e .home) (e .home) ≡ length (t .u)
     first = omega (arith, gap, t .here)
 
@@ -109,53 +112,56 @@ pub record Sees {d : ℕ} {ws : List Word} {es : List Entry} {p : ℕ} (t : InRu
   pub taken : Taken (occupied ws) p
 
 pub sees :
-  {d : ℕ} {ws : List Word} {es : List Entry} {p : ℕ} (t : InRun d ws es p) →
-  d ≤ 4096 → at ws 0 .occupied ≡ false → Sees t
+    {d : ℕ} {ws : List Word} {es : List Entry} {p : ℕ} (t : InRun d ws es p) →
+    d ≤ 4096 → at ws 0 .occupied ≡ false → Sees t
 sees {d} {ws} {es} {p} t s start =
     record {
       left =
-        ap (λ (vs : List Word). leftGap (occupied vs) p) (t .words)
-        ∙ run-left (t .u) (t .g) (t .run) (t .h) (t .v) empty occ hollow origin-here p (t .after) (t .before);
+          ap (λ (vs : List Word). leftGap (occupied vs) p) (t .words)
+          ∙ run-left (t .u) (t .g) (t .run) (t .h) (t .v) empty occ hollow origin-here p (t .after) (t .before);
       right =
-        ap (λ (vs : List Word). rightGap (occupied vs) p) (t .words)
-        ∙ run-right (t .u) (t .g) (t .run) (t .h) (t .v) empty occ hollow origin-here p (t .after) (t .before);
+          ap (λ (vs : List Word). rightGap (occupied vs) p) (t .words)
+          ∙ run-right (t .u) (t .g) (t .run) (t .h) (t .v) empty occ hollow origin-here p (t .after) (t .before);
       entries =
-        ap (λ (vs : List Word). clusterEntries vs p) (t .words)
-        ∙ run-cluster-entries
-        (t .u)
-        (t .g)
-        (t .run)
-        (t .h)
-        (t .v)
-        empty
-        occ
-        hollow
-        origin-here
-        p
-        (t .after)
-        (t .before)
-        ∙ run-entries s (t .inside);
+          ap (λ (vs : List Word). clusterEntries vs p) (t .words)
+          ∙ run-cluster-entries
+          (t .u)
+          (t .g)
+          (t .run)
+          (t .h)
+          (t .v)
+          empty
+          occ
+          hollow
+          origin-here
+          p
+          (t .after)
+          (t .before)
+          ∙ run-entries s (t .inside);
       taken =
-        ap (λ (vs : List Word). getD (occupied vs) p false) (t .words)
-        ∙ run-taken (t .u) (t .g) (t .run) (t .h) (t .v) empty occ hollow origin-here p (t .after) (t .before)
+          ap (λ (vs : List Word). getD (occupied vs) p false) (t .words)
+          ∙ run-taken (t .u) (t .g) (t .run) (t .h) (t .v) empty occ hollow origin-here p (t .after) (t .before);
     }
   where
     empty : t .g .occupied ≡ false
     empty = void-free (t .g) (t .void)
+
     hollow : t .h .occupied ≡ false
     hollow = void-free (t .h) (t .hollow)
+
     occ : all isOccupied (t .run) ≡ true
     occ = run-occupied (t .inside)
+
     origin-here : at (t .u ++ (t .g ∷ (t .run ++ (t .h ∷ t .v)))) 0 .occupied ≡ false
     origin-here = sym (ap (λ (vs : List Word). at vs 0 .occupied) (t .words)) ∙ start
 
 added-left :
-  {d : ℕ} {ws : List Word} {es : List Entry} (e : Entry) (t : InRun d ws es (e .home)) →
-  Sees t →
-  d ≤ 4096 →
-  e .remainder < d →
-  holds e (t .ys) ≡ false →
-  0 < length (t .u) → Added d ws es e (leftGap (occupied ws) (e .home)) (addAt ws e (leftGap (occupied ws) (e .home)))
+    {d : ℕ} {ws : List Word} {es : List Entry} (e : Entry) (t : InRun d ws es (e .home)) →
+    Sees t →
+    d ≤ 4096 →
+    e .remainder < d →
+    holds e (t .ys) ≡ false →
+    0 < length (t .u) → Added d ws es e (leftGap (occupied ws) (e .home)) (addAt ws e (leftGap (occupied ws) (e .home)))
 unfolding enlargedFrom
 added-left {d} {ws} {es} e t look s low absent some =
     subst₂
@@ -169,16 +175,17 @@ added-left {d} {ws} {es} e t look s low absent some =
   where
     l : List Word
     l = layRun (length (t .u)) (insert e (t .ys))
+
     long : length l ≡ suc (length (t .run))
     long = lay-run-length (length (t .u)) (insert e (t .ys)) ∙ insert-length e (t .ys) absent ∙ ap suc (t .inside .size)
 
 added-right :
-  {d : ℕ} {ws : List Word} {es : List Entry} (e : Entry) (t : InRun d ws es (e .home)) →
-  Sees t →
-  d ≤ 4096 →
-  e .remainder < d →
-  holds e (t .ys) ≡ false →
-  0 < length (t .v) → Added d ws es e (rightGap (occupied ws) (e .home)) (addAt ws e (rightGap (occupied ws) (e .home)))
+    {d : ℕ} {ws : List Word} {es : List Entry} (e : Entry) (t : InRun d ws es (e .home)) →
+    Sees t →
+    d ≤ 4096 →
+    e .remainder < d →
+    holds e (t .ys) ≡ false →
+    0 < length (t .v) → Added d ws es e (rightGap (occupied ws) (e .home)) (addAt ws e (rightGap (occupied ws) (e .home)))
 unfolding enlargedFrom
 added-right {d} {ws} {es} e t look s low absent more =
     subst₂
@@ -200,13 +207,16 @@ added-right {d} {ws} {es} e t look s low absent more =
   where
     l : List Word
     l = layRun (suc (length (t .u))) (insert e (t .ys))
+
     parts :
-      t .u ++ (t .g ∷ (t .run ++ (t .h ∷ t .v))) ≡ (t .u ++ (t .g ∷ [])) ++ ((t .run ++ (t .h ∷ [])) ++ t .v)
+        t .u ++ (t .g ∷ (t .run ++ (t .h ∷ t .v))) ≡ (t .u ++ (t .g ∷ [])) ++ ((t .run ++ (t .h ∷ [])) ++ t .v)
     parts =
         ap (λ (vs : List Word). t .u ++ (t .g ∷ vs)) (sym (append-assoc (t .run) (t .h ∷ []) (t .v)))
         ∙ sym (append-assoc (t .u) (t .g ∷ []) ((t .run ++ (t .h ∷ [])) ++ t .v))
+
     first : suc (length (t .u)) ≡ length (t .u ++ (t .g ∷ []))
     first = omega (arith, length-append (t .u) (t .g ∷ []))
+
     long : length l ≡ length (t .run ++ (t .h ∷ []))
     long =
         lay-run-length (suc (length (t .u))) (insert e (t .ys))
@@ -217,19 +227,128 @@ added-right {d} {ws} {es} e t look s low absent more =
 pub data Puts (sh : Shape) (ws : List Word) (es : List Entry) (e : Entry) : Outcome → Type 0 where
   found : holds e es ≡ true → Puts sh ws es e (keeps (says 1))
   inserted :
-    (p : ℕ) →
-    holds e es ≡ false →
-    roomFor sh (occupied ws) (e .home) ≡ place p →
-    Added (remainders sh) ws es e p (addAt ws e p) → Puts sh ws es e (writes (says 2) (addAt ws e p))
+      (p : ℕ) →
+      holds e es ≡ false →
+      roomFor sh (occupied ws) (e .home) ≡ place p →
+      Added (remainders sh) ws es e p (addAt ws e p) → Puts sh ws es e (writes (says 2) (addAt ws e p))
   overflow : holds e es ≡ false → roomFor sh (occupied ws) (e .home) ≡ full → Puts sh ws es e (keeps (refuses 8))
 
 pub table-guarded :
-  (sh : Shape) {ws : List Word} {es : List Entry} →
-  length ws ≡ places sh → Table (remainders sh) ws es → Guarded sh (occupied ws)
+    (sh : Shape) {ws : List Word} {es : List Entry} →
+    length ws ≡ places sh → Table (remainders sh) ws es → Guarded sh (occupied ws)
 unfolding guardsVoid
 table-guarded sh {ws} size t =
     record {
       size = occupied-length ws ∙ size;
       left = occupied-at ws 0 ∙ void-free _ (and-left (isVoid (at ws 0)) _ (table-guards sh size t));
-      right = occupied-at ws (rightGuard sh) ∙ void-free _ (and-right (isVoid (at ws 0)) _ (table-guards sh size t))
+      right = occupied-at ws (rightGuard sh) ∙ void-free _ (and-right (isVoid (at ws 0)) _ (table-guards sh size t));
     }
+
+-- a gap on the left that is not the left guard has words before it; one on the right that is not the right guard has words after it
+words-after :
+    (sh : Shape) (u : List Word) (g : Word) (v ws : List Word) →
+    ws ≡ u ++ (g ∷ v) → length ws ≡ places sh → (length u ≡ rightGuard sh → ⊥) → 0 < length v
+unfolding places rightGuard
+words-after sh u g v ws e size n = omega (arith, ap length e, length-append u (g ∷ v))
+
+module _ (sh : Shape) {ws : List Word} {es : List Entry} (e : Entry)
+    (s : remainders sh ≤ 4096)
+    (size : length ws ≡ places sh)
+    (k : HomePlace sh (e .home))
+    (low : e .remainder < remainders sh)
+    (t : Table (remainders sh) ws es)
+    (absent : holds e es ≡ false)
+  where
+    puts-gap :
+        {r : Room} →
+        AtGap (remainders sh) ws es (e .home) →
+        roomFor sh (occupied ws) (e .home) ≡ r →
+        Chosen gaps.left sh (occupied ws) (e .home) r → Puts sh ws es e (addTo ws e r)
+    unfolding rightGuard
+    puts-gap x named c = go c (occupied-at ws (e .home) ∙ ap (λ (q : ℕ). at ws q .occupied) (x .here) ∙ empty) named
+      where
+        empty : at ws (length (x .u)) .occupied ≡ false
+        empty =
+            ap (λ (vs : List Word). at vs (length (x .u)) .occupied) (x .words)
+            ∙ ap isOccupied (at-seam (x .u) (x .g) (x .v))
+            ∙ void-free (x .g) (x .void)
+
+        far : length (x .u) ≡ rightGuard sh → ⊥
+        far at-guard = omega (arith, x .here, k .last)
+
+        go :
+            {r : Room} →
+            Chosen gaps.left sh (occupied ws) (e .home) r →
+            Free (occupied ws) (e .home) → roomFor sh (occupied ws) (e .home) ≡ r → Puts sh ws es e (addTo ws e r)
+        go (gaps.home f) free at-home =
+            inserted (e .home) absent at-home
+            (added-home e x s low (origin t) (omega (arith, x .here, k .first)) (words-after sh (x .u) (x .g) (x .v) ws (x .words) size far))
+        go (gaps.first y n) free at-home = absurd (true≢false (sym y ∙ free))
+        go (gaps.second y a b) free at-home = absurd (true≢false (sym y ∙ free))
+        go (gaps.none y a b) free at-home = absurd (true≢false (sym y ∙ free))
+
+    puts-run :
+        {r : Room} →
+        InRun (remainders sh) ws es (e .home) →
+        roomFor sh (occupied ws) (e .home) ≡ r →
+        Chosen gaps.left sh (occupied ws) (e .home) r → Puts sh ws es e (addTo ws e r)
+    puts-run x named c = go c named
+      where
+        look : Sees x
+        look = sees x s (origin t)
+
+        more : (rightGap (occupied ws) (e .home) ≡ rightGuard sh → ⊥) → 0 < length (x .v)
+        more n =
+            words-after
+            sh
+            (x .u ++ (x .g ∷ x .run))
+            (x .h)
+            (x .v)
+            ws
+            (x .words ∙ sym (append-assoc (x .u) (x .g ∷ x .run) (x .h ∷ x .v)))
+            size
+            (λ at-guard. n (look .right ∙ sym far ∙ at-guard))
+          where
+            far : length (x .u ++ (x .g ∷ x .run)) ≡ suc (length (x .u)) + length (x .run)
+            far = omega (arith, length-append (x .u) (x .g ∷ x .run))
+
+        not-here : holds e (x .ys) ≡ false
+        not-here = ap (holds e) (sym (look .entries)) ∙ surroundings sh e s size k low t .same ∙ absent
+
+        go :
+            {r : Room} →
+            Chosen gaps.left sh (occupied ws) (e .home) r →
+            roomFor sh (occupied ws) (e .home) ≡ r → Puts sh ws es e (addTo ws e r)
+        go (gaps.home f) at-home = absurd (true≢false (sym (look .taken) ∙ f))
+        go (gaps.first y n) at-home =
+            inserted (leftGap (occupied ws) (e .home)) absent at-home (added-left e x look s low not-here (omega (arith, look .left, n)))
+        go (gaps.second y a n) at-home =
+            inserted (rightGap (occupied ws) (e .home)) absent at-home (added-right e x look s low not-here (more n))
+        go (gaps.none y a b) at-home = overflow absent at-home
+
+    puts-absent : Puts sh ws es e (addTo ws e (roomFor sh (occupied ws) (e .home)))
+    unfolding places
+    puts-absent = go (locate (e .home) t (omega (arith, k .last)))
+      where
+        go : Located (remainders sh) ws es (e .home) → Puts sh ws es e (addTo ws e (roomFor sh (occupied ws) (e .home)))
+        go (at-gap x) = puts-gap x refl (room-chosen sh (occupied ws) (e .home))
+        go (in-run x) = puts-run x refl (room-chosen sh (occupied ws) (e .home))
+
+-- put on an unlocked table
+pub put-table :
+    (sh : Shape) {ws : List Word} {es : List Entry} (e : Entry) →
+    remainders sh ≤ 4096 →
+    length ws ≡ places sh →
+    HomePlace sh (e .home) →
+    e .remainder < remainders sh →
+    Table (remainders sh) ws es → locked ws ≡ false → Puts sh ws es e (putIn sh ws e)
+unfolding putIn
+put-table sh {ws} {es} e s size k low t free =
+    subst (Puts sh ws es e) (sym (rw (look .sound, around-free ws (e .home) free, look .same) refl)) (go (holds e es) refl)
+  where
+    look : Surroundings sh ws es e
+    look = surroundings sh e s size k low t
+
+    go : (b : Bool) → holds e es ≡ b → Puts sh ws es e (cond b (keeps (says 1)) (addTo ws e (roomFor sh (occupied ws) (e .home))))
+    go true h = found h
+    go false h = puts-absent sh e s size k low t h
