@@ -15,6 +15,7 @@ pub mod Pairs
 pub mod Finding
 pub mod Adding
 pub mod Putting
+pub mod Building
 pub mod Motion
 pub mod Region
 pub mod Payload
