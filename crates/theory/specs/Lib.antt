@@ -16,6 +16,7 @@ pub mod Finding
 pub mod Adding
 pub mod Putting
 pub mod Building
+pub mod Keys
 pub mod Motion
 pub mod Region
 pub mod Payload
