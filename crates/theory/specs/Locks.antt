@@ -1,17 +1,19 @@
--- Lock bits are aside: nothing that the rules say of a run, nor what it shows, depends on them.
+-- Lock bits are aside: nothing that the rules say of a run or a table, nor what it shows, depends on them.
 -- Assumes nothing.
-use Prim.Native.Nat.{ℕ, suc, _+_, _*_}
+use Prim.Native.Nat.{ℕ, zero, suc, _+_, _-_, _*_}
 use mathlib.Core.Path.{_≡_, refl, ap, ap₂, _∙_}
-use mathlib.Core.Bool.{Bool, cond, _&&_, _||_}
+use mathlib.Core.Bool.{Bool, not, cond, _&&_, _||_}
 use mathlib.Core.List.{List, [], _∷_, map}
-use lib.ListN.{length}
+use lib.ListN.{length, getD, take, drop, List·getD-map}
 use lib.Dec.{ltb, eqb}
 use Rattle.rules.specs.declared.Shape.{Shape}
 use Rattle.rules.specs.Lists.{bitOf, count, all}
-use Rattle.rules.specs.Word.{Word}
-use Rattle.rules.specs.Entry.{Entry}
-use Rattle.rules.specs.Shape.{remainders}
-use Rattle.rules.specs.Table.{endsInChange, rising, soundRun, virginPlaces, front, due, deal}
+use Rattle.rules.specs.Word.{Word, zeroWord, isVoid}
+use Rattle.rules.specs.Entry.{Entry, join}
+use Rattle.rules.specs.Shape.{remainders, rightGuard}
+use Rattle.rules.specs.Table.{at, occupied, leftGap, rightGap, between, cluster, endsInChange, rising, soundRun}
+use Rattle.rules.specs.Table.{virginPlaces, front, due, deal, entriesBetween, clusterEntries, entryAt, entriesFrom, entries}
+use Rattle.rules.specs.Table.{list, soundAt, soundFrom, sound}
 use Rattle.theory.specs.Run.{unlock}
 use Rattle.theory.specs.Dealt.{isChange, isVirgin, isOccupied, isLow}
 
@@ -60,3 +62,97 @@ unfolding deal
 deal-unlock hs [] = refl
 deal-unlock hs (w ∷ ws) =
     ap (λ (es : List Entry). record { home = front hs; remainder = w .remainder } ∷ es) (deal-unlock (due (w .change) hs) ws)
+
+-- ---- whole tables
+pub occupied-unlock : (ws : List Word) → occupied (map unlock ws) ≡ occupied ws
+unfolding occupied
+occupied-unlock [] = refl
+occupied-unlock (w ∷ ws) = ap (λ (os : List Bool). w .occupied ∷ os) (occupied-unlock ws)
+
+at-unlock : (ws : List Word) (p : ℕ) → at (map unlock ws) p ≡ unlock (at ws p)
+at-unlock ws p = List·getD-map unlock ws p zeroWord
+
+take-map : (n : ℕ) (ws : List Word) → take n (map unlock ws) ≡ map unlock (take n ws)
+take-map zero ws = refl
+take-map (suc n) [] = refl
+take-map (suc n) (w ∷ ws) = ap (λ (vs : List Word). unlock w ∷ vs) (take-map n ws)
+
+drop-map : (n : ℕ) (ws : List Word) → drop n (map unlock ws) ≡ map unlock (drop n ws)
+drop-map zero ws = refl
+drop-map (suc n) [] = refl
+drop-map (suc n) (w ∷ ws) = drop-map n ws
+
+between-unlock : (ws : List Word) (l r : ℕ) → between (map unlock ws) l r ≡ map unlock (between ws l r)
+between-unlock ws l r = ap (drop (suc l)) (take-map r ws) ∙ drop-map (suc l) (take r ws)
+
+cluster-unlock : (ws : List Word) (p : ℕ) → cluster (map unlock ws) p ≡ map unlock (cluster ws p)
+unfolding cluster
+cluster-unlock ws p =
+    ap (λ (os : List Bool). between (map unlock ws) (leftGap os p) (rightGap os p)) (occupied-unlock ws)
+    ∙ between-unlock ws (leftGap (occupied ws) p) (rightGap (occupied ws) p)
+
+void-aside : (w : Word) → isVoid (unlock w) ≡ isVoid w
+unfolding isVoid
+void-aside w = refl
+
+sound-from-unlock :
+  (sh : Shape) (ws : List Word) (p : ℕ) (rest : List Word) →
+  soundFrom sh (map unlock ws) p (map unlock rest) ≡ soundFrom sh ws p rest
+unfolding soundFrom soundAt
+sound-from-unlock sh ws p [] = refl
+sound-from-unlock sh ws p (w ∷ rest) =
+    ap₂
+    _&&_
+    (ap₂
+    (cond (w .occupied))
+    (ap (soundRun sh) (cluster-unlock ws p) ∙ sound-run-unlock sh (cluster ws p))
+    (void-aside w))
+    (sound-from-unlock sh ws (suc p) rest)
+
+-- a table is sound whatever its lock bits
+pub sound-unlock : (sh : Shape) (ws : List Word) → sound sh (map unlock ws) ≡ sound sh ws
+unfolding sound
+sound-unlock sh ws =
+    ap₂
+    (λ (v w : Word). not (v .occupied) && not (w .occupied) && soundFrom sh (map unlock ws) 0 (map unlock ws))
+    (at-unlock ws 0)
+    (at-unlock ws (rightGuard sh))
+    ∙ ap
+    (λ (b : Bool). not (at ws 0 .occupied) && not (at ws (rightGuard sh) .occupied) && b)
+    (sound-from-unlock sh ws 0 ws)
+
+entry-unlock : (ws : List Word) (p : ℕ) → entryAt (map unlock ws) p ≡ entryAt ws p
+unfolding entryAt clusterEntries entriesBetween
+entry-unlock ws p =
+    ap
+    (λ (os : List Bool).
+    getD
+    (entriesBetween (map unlock ws) (leftGap os p) (rightGap os p))
+    (p - suc (leftGap os p))
+    (record { home = 0; remainder = 0 }))
+    (occupied-unlock ws)
+    ∙ ap
+    (λ (es : List Entry). getD es (p - suc (leftGap (occupied ws) p)) (record { home = 0; remainder = 0 }))
+    (ap
+    (λ (vs : List Word). deal (virginPlaces (suc (leftGap (occupied ws) p)) vs) vs)
+    (between-unlock ws (leftGap (occupied ws) p) (rightGap (occupied ws) p))
+    ∙ ap (λ (hs : List ℕ). deal hs (map unlock run)) (virgin-unlock (suc (leftGap (occupied ws) p)) run)
+    ∙ deal-unlock (virginPlaces (suc (leftGap (occupied ws) p)) run) run)
+  where
+    run : List Word
+    run = between ws (leftGap (occupied ws) p) (rightGap (occupied ws) p)
+
+entries-from-unlock :
+  (ws : List Word) (p : ℕ) (rest : List Word) → entriesFrom (map unlock ws) p (map unlock rest) ≡ entriesFrom ws p rest
+unfolding entriesFrom
+entries-from-unlock ws p [] = refl
+entries-from-unlock ws p (w ∷ rest) =
+    ap₂
+    (λ (e : Entry) (es : List Entry). cond (w .occupied) (e ∷ es) es)
+    (entry-unlock ws p)
+    (entries-from-unlock ws (suc p) rest)
+
+-- and shows the same list
+pub list-unlock : (sh : Shape) (ws : List Word) → list sh (map unlock ws) ≡ list sh ws
+unfolding list entries
+list-unlock sh ws = ap (map (join sh)) (entries-from-unlock ws 0 ws)
