@@ -1,1 +1,123 @@
--- x
+-- Lent bytes that are a sound table, and a plain one (sound and unlocked); and how such bytes and the theory's tables stand for each other.
+-- Assumes nothing.
+use Prim.Native.Nat.{ℕ, zero, suc, _+_, _*_, _/_, _%_, _≤_, _<_}
+use mathlib.Core.Path.{_≡_, refl, sym, ap, ap₂, _∙_, subst}
+use mathlib.Core.Bool.{Bool, true, false}
+use mathlib.Core.List.{List, [], _∷_, map}
+use native.Mathlib.Omega.{arith}
+use native.Mathlib.Nat.{le-refl, le-trans}
+use lib.ListN.{length, getD}
+use borrow.Author.Tests.{eq-eqb}
+use Rattle.rules.specs.declared.Shape.{Shape}
+use Rattle.rules.specs.Word.{Word, zeroWord, numberOf}
+use Rattle.rules.specs.Bytes.{wordsOf, bytesOf}
+use Rattle.rules.specs.Shape.{shapeOf, inRange, homes, remainders, keys, places, fitsLength, goodTable}
+use Rattle.rules.specs.Entry.{Entry}
+use Rattle.rules.specs.Table.{at, occupied, entries, list, sound, locked}
+use Rattle.rules.specs.Lay.{lay}
+use Rattle.words.specs.Range.{InRange, good-table, range-in, remainders-high}
+use Rattle.words.specs.Number.{number-small}
+use Rattle.words.specs.Layout.{words-length, bytes-length, words-of-bytes, bytes-of-words}
+use Rattle.theory.specs.Perm as perm
+use Rattle.theory.specs.Perm.{All}
+use Rattle.theory.specs.Insert.{asc-all}
+use Rattle.theory.specs.Dealt.{and-both}
+use Rattle.theory.specs.Locks.{at-unlock}
+use Rattle.theory.specs.Seen.{Table}
+use Rattle.theory.specs.SoundTable.{sound-is-table, table-is-sound, table-entries}
+use Rattle.theory.specs.Pairs.{table-lay}
+use Rattle.theory.specs.Building.{State, table-asc}
+
+-- lent bytes that are a sound table of a shape
+pub record SoundTable (m r : ℕ) (bytes : List ℕ) : Type 0 where
+  pub good : goodTable (shapeOf m r) (length bytes) ≡ true
+  pub small : (i : ℕ) → getD bytes i 0 < 256
+  pub sound-words : sound (shapeOf m r) (wordsOf bytes) ≡ true
+
+-- sound, and without a lock
+pub record PlainTable (m r : ℕ) (bytes : List ℕ) : Type 0 where
+  pub whole : SoundTable m r bytes
+  pub unlocked : locked (wordsOf bytes) ≡ false
+
+-- the list that it shows
+abbrev pub listOf : ℕ → ℕ → List ℕ → List ℕ
+listOf m r bytes = list (shapeOf m r) (wordsOf bytes)
+
+pub in-range-of : {m r : ℕ} {bytes : List ℕ} → SoundTable m r bytes → InRange (shapeOf m r)
+in-range-of {m} {r} {bytes} t = good-table (shapeOf m r) (length bytes) (t .good) .0
+
+pub low-of : {m r : ℕ} {bytes : List ℕ} → SoundTable m r bytes → remainders (shapeOf m r) ≤ 4096
+low-of {m} {r} t = remainders-high (shapeOf m r) (in-range-of t)
+
+pub size-of : {m r : ℕ} {bytes : List ℕ} → SoundTable m r bytes → length (wordsOf bytes) ≡ places (shapeOf m r)
+size-of {m} {r} {bytes} t =
+    words-length bytes (places (shapeOf m r)) (good-table (shapeOf m r) (length bytes) (t .good) .1)
+
+-- ---- from bytes to the theory's tables
+pub table-of :
+  {m r : ℕ} {bytes : List ℕ} →
+  SoundTable m r bytes → Table (remainders (shapeOf m r)) (wordsOf bytes) (entries (wordsOf bytes))
+table-of {m} {r} {bytes} t =
+    sound-is-table (shapeOf m r) (wordsOf bytes) (low-of t) (size-of t) (t .sound-words)
+
+pub state-of :
+  {m r : ℕ} {bytes : List ℕ} →
+  PlainTable m r bytes → State (shapeOf m r) (wordsOf bytes) (entries (wordsOf bytes))
+state-of t = record { table = table-of (t .whole); free = t .unlocked; size = size-of (t .whole) }
+
+-- ---- and back
+lay-small :
+  (whole : List Entry) (q : ℕ) (os : List Bool) {es : List Entry} (p : ℕ) →
+  All (λ (e : Entry). e .remainder < 4096) es → at (lay whole q os es) p .remainder < 4096
+unfolding lay
+lay-small whole q [] p low = omega arith
+lay-small whole q (false ∷ os) zero low = omega arith
+lay-small whole q (false ∷ os) (suc p) low = lay-small whole (suc q) os p low
+lay-small whole q (true ∷ os) zero perm.none = omega arith
+lay-small whole q (true ∷ os) (suc p) perm.none = lay-small whole (suc q) os p perm.none
+lay-small whole q (true ∷ os) zero (perm.both l ls) = l
+lay-small whole q (true ∷ os) (suc p) (perm.both l ls) = lay-small whole (suc q) os p ls
+
+-- a table's remainders are below 4096
+pub table-small :
+  {d : ℕ} {ws : List Word} {es : List Entry} → d ≤ 4096 → Table d ws es → (p : ℕ) → at ws p .remainder < 4096
+table-small {ws = ws} {es} s t p =
+    subst
+    (λ (x : ℕ). x < 4096)
+    (ap (λ (vs : List Word). at vs p .remainder) (table-lay s t) ∙ ap (λ (w : Word). w .remainder) (at-unlock ws p))
+    (lay-small es 0 (occupied ws) p (perm.all-map (λ e w. omega (arith, w .low)) (asc-all (table-asc s t))))
+
+bytes-small : (ws : List Word) → ((p : ℕ) → at ws p .remainder < 4096) → (i : ℕ) → getD (bytesOf ws) i 0 < 256
+unfolding bytesOf
+bytes-small [] small i = omega arith
+bytes-small (w ∷ ws) small zero = omega arith
+bytes-small (w ∷ ws) small (suc zero) = omega (arith, number-small w (small 0))
+bytes-small (w ∷ ws) small (suc (suc i)) = bytes-small ws (λ p. small (suc p)) i
+
+module _ (m r : ℕ) (range : InRange (shapeOf m r)) {ws : List Word} {es : List Entry} (t : State (shapeOf m r) ws es) where
+  pub words-back : wordsOf (bytesOf ws) ≡ ws
+  words-back = words-of-bytes ws (table-small (remainders-high (shapeOf m r) range) (t .table))
+
+  -- the bytes of an unlocked table are a plain table that shows the table's entries
+  pub plain-of : PlainTable m r (bytesOf ws)
+  unfolding goodTable fitsLength
+  plain-of =
+      record {
+        whole =
+          record {
+            good =
+              and-both
+              _
+              _
+              (range-in (shapeOf m r) range)
+              (eq-eqb _ _ (bytes-length ws ∙ ap (λ (n : ℕ). 2 * n) (t .size)));
+            small = bytes-small ws (table-small (remainders-high (shapeOf m r) range) (t .table));
+            sound-words =
+              ap (sound (shapeOf m r)) words-back
+              ∙ table-is-sound (shapeOf m r) (remainders-high (shapeOf m r) range) (t .size) (t .table)
+          };
+        unlocked = ap locked words-back ∙ t .free
+      }
+
+  pub entries-back : entries (wordsOf (bytesOf ws)) ≡ es
+  entries-back = ap entries words-back ∙ table-entries (shapeOf m r) (remainders-high (shapeOf m r) range) (t .table)

@@ -2,4 +2,3 @@
 pub mod Demand1
 pub mod Lent
 pub mod Proof2
-pub mod Demand2

@@ -129,7 +129,7 @@ pub record Put (sh : Shape) (ws : List Word) (es : List Entry) (e : Entry) (vs :
   pub state : State sh vs (insert e es)
   pub places : occupied vs ≡ filledFor sh (occupied ws) e (holds e es)
 
-place≢full : {p : ℕ} → place p ≡ full → ⊥
+pub place≢full : {p : ℕ} → place p ≡ full → ⊥
 place≢full e = let z : _≡_ {A = ℕ} 0 1 = cc in omega arith
 
 -- an inserted entry is among those that the table has room for
@@ -139,6 +139,22 @@ inside-insert us es e inside here x h = go (sameEntry x e) refl (sym (holds-inse
     go : (b : Bool) → sameEntry x e ≡ b → (sameEntry x e || holds x es) ≡ true → holds x us ≡ true
     go true t k = ap (λ (f : Entry). holds f us) (same-eq x e t) ∙ here
     go false t k = inside x (rw t at k)
+
+-- the table after an entry was added
+pub added-state :
+  {sh : Shape} {ws : List Word} {es : List Entry} {e : Entry} {p : ℕ} {vs : List Word} →
+  State sh ws es → Added (remainders sh) ws es e p vs → State sh vs (insert e es)
+added-state {sh} {ws} {es} {e} {p} {vs} t added =
+    record {
+      table = added .table;
+      free = added .free (t .free);
+      size =
+        sym (occupied-length vs)
+        ∙ ap length (added .places)
+        ∙ length-set (occupied ws) p true
+        ∙ occupied-length ws
+        ∙ t .size
+    }
 
 -- with room for one more, a put leaves the entry inserted
 module _ {sh : Shape} {us : List Entry} {ws : List Word} {es : List Entry} (e : Entry) (u : Roomy sh us) (t : State sh ws es) where
@@ -160,17 +176,7 @@ module _ {sh : Shape} {us : List Entry} {ws : List Word} {es : List Entry} (e : 
   unfolding fillPlaces
   put-inserted p h room added =
       record {
-        state =
-            record {
-              table = added .table;
-              free = added .free (t .free);
-              size =
-                  sym (occupied-length (addAt ws e p))
-                  ∙ ap length (added .places)
-                  ∙ length-set (occupied ws) p true
-                  ∙ occupied-length ws
-                  ∙ t .size;
-            };
+        state = added-state t added;
         places = added .places ∙ ap (fillAt (occupied ws)) (sym room) ∙ ap (filledFor sh (occupied ws) e) (sym h);
       }
 
@@ -215,7 +221,7 @@ put-room {sh} {us} {ws} {es} e u t inside here =
 
 -- ---- two puts
 -- tables with the same places and the same entries are one
-state-unique :
+pub state-unique :
     {sh : Shape} {ws vs : List Word} {es : List Entry} →
     remainders sh ≤ 4096 → State sh ws es → State sh vs es → occupied ws ≡ occupied vs → ws ≡ vs
 state-unique s t u alike = table-unique s (t .table) (t .free) (u .table) (u .free) alike

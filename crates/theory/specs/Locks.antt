@@ -69,7 +69,7 @@ unfolding occupied
 occupied-unlock [] = refl
 occupied-unlock (w ∷ ws) = ap (λ (os : List Bool). w .occupied ∷ os) (occupied-unlock ws)
 
-at-unlock : (ws : List Word) (p : ℕ) → at (map unlock ws) p ≡ unlock (at ws p)
+pub at-unlock : (ws : List Word) (p : ℕ) → at (map unlock ws) p ≡ unlock (at ws p)
 at-unlock ws p = List·getD-map unlock ws p zeroWord
 
 take-map : (n : ℕ) (ws : List Word) → take n (map unlock ws) ≡ map unlock (take n ws)
