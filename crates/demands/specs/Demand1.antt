@@ -154,14 +154,14 @@ numbered-step sh ws t =
     (stopped 3 (omega arith))
 
 numbered-settled :
-  (bytes : List ℕ) (ts : List Task) (i : ℕ) {s : Stepped} →
-  Numbered s → Settled (record { table = bytes; tasks = ts }) (lentAfter bytes ts i s)
+    (bytes : List ℕ) (ts : List Task) (i : ℕ) {s : Stepped} →
+    Numbered s → Settled (record { table = bytes; tasks = ts }) (lentAfter bytes ts i s)
 numbered-settled bytes ts i (goes-on t ws) = accept 0 (record { table = bytesOf ws; tasks = set ts i t })
 numbered-settled bytes ts i (stopped n le) = refuse n le
 
 pub step-settles :
-  (m r : ℕ) (bytes : List ℕ) (tasks : List Task) (i : ℕ) →
-  Settled (record { table = bytes; tasks = tasks }) (step m r bytes tasks i)
+    (m r : ℕ) (bytes : List ℕ) (tasks : List Task) (i : ℕ) →
+    Settled (record { table = bytes; tasks = tasks }) (step m r bytes tasks i)
 unfolding step
 step-settles m r bytes tasks i =
     either

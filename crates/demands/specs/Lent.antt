@@ -1,4 +1,4 @@
--- Lent bytes that are a sound table, and a plain one (sound and unlocked); and how such bytes and the theory's tables stand for each other.
+-- How lent bytes that are a sound table, and the theory's tables, stand for each other.
 -- Assumes nothing.
 use Prim.Native.Nat.{ℕ, zero, suc, _+_, _*_, _/_, _%_, _≤_, _<_}
 use mathlib.Core.Path.{_≡_, refl, sym, ap, ap₂, _∙_, subst}
@@ -27,21 +27,7 @@ use Rattle.theory.specs.Seen.{Table}
 use Rattle.theory.specs.SoundTable.{sound-is-table, table-is-sound, table-entries}
 use Rattle.theory.specs.Pairs.{table-lay}
 use Rattle.theory.specs.Building.{State, table-asc}
-
--- lent bytes that are a sound table of a shape
-pub record SoundTable (m r : ℕ) (bytes : List ℕ) : Type 0 where
-  pub good : goodTable (shapeOf m r) (length bytes) ≡ true
-  pub small : (i : ℕ) → getD bytes i 0 < 256
-  pub sound-words : sound (shapeOf m r) (wordsOf bytes) ≡ true
-
--- sound, and without a lock
-pub record PlainTable (m r : ℕ) (bytes : List ℕ) : Type 0 where
-  pub whole : SoundTable m r bytes
-  pub unlocked : locked (wordsOf bytes) ≡ false
-
--- the list that it shows
-abbrev pub listOf : ℕ → ℕ → List ℕ → List ℕ
-listOf m r bytes = list (shapeOf m r) (wordsOf bytes)
+use Rattle.demands.specs.Terms.{SoundTable, PlainTable}
 
 pub in-range-of : {m r : ℕ} {bytes : List ℕ} → SoundTable m r bytes → InRange (shapeOf m r)
 in-range-of {m} {r} {bytes} t = good-table (shapeOf m r) (length bytes) (t .good) .0
@@ -55,20 +41,20 @@ size-of {m} {r} {bytes} t =
 
 -- ---- from bytes to the theory's tables
 pub table-of :
-  {m r : ℕ} {bytes : List ℕ} →
-  SoundTable m r bytes → Table (remainders (shapeOf m r)) (wordsOf bytes) (entries (wordsOf bytes))
+    {m r : ℕ} {bytes : List ℕ} →
+    SoundTable m r bytes → Table (remainders (shapeOf m r)) (wordsOf bytes) (entries (wordsOf bytes))
 table-of {m} {r} {bytes} t =
     sound-is-table (shapeOf m r) (wordsOf bytes) (low-of t) (size-of t) (t .sound-words)
 
 pub state-of :
-  {m r : ℕ} {bytes : List ℕ} →
-  PlainTable m r bytes → State (shapeOf m r) (wordsOf bytes) (entries (wordsOf bytes))
+    {m r : ℕ} {bytes : List ℕ} →
+    PlainTable m r bytes → State (shapeOf m r) (wordsOf bytes) (entries (wordsOf bytes))
 state-of t = record { table = table-of (t .whole); free = t .unlocked; size = size-of (t .whole) }
 
 -- ---- and back
 lay-small :
-  (whole : List Entry) (q : ℕ) (os : List Bool) {es : List Entry} (p : ℕ) →
-  All (λ (e : Entry). e .remainder < 4096) es → at (lay whole q os es) p .remainder < 4096
+    (whole : List Entry) (q : ℕ) (os : List Bool) {es : List Entry} (p : ℕ) →
+    All (λ (e : Entry). e .remainder < 4096) es → at (lay whole q os es) p .remainder < 4096
 unfolding lay
 lay-small whole q [] p low = omega arith
 lay-small whole q (false ∷ os) zero low = omega arith
@@ -80,7 +66,7 @@ lay-small whole q (true ∷ os) (suc p) (perm.both l ls) = lay-small whole (suc 
 
 -- a table's remainders are below 4096
 pub table-small :
-  {d : ℕ} {ws : List Word} {es : List Entry} → d ≤ 4096 → Table d ws es → (p : ℕ) → at ws p .remainder < 4096
+    {d : ℕ} {ws : List Word} {es : List Entry} → d ≤ 4096 → Table d ws es → (p : ℕ) → at ws p .remainder < 4096
 table-small {ws = ws} {es} s t p =
     subst
     (λ (x : ℕ). x < 4096)
@@ -104,19 +90,19 @@ module _ (m r : ℕ) (range : InRange (shapeOf m r)) {ws : List Word} {es : List
   plain-of =
       record {
         whole =
-          record {
-            good =
-              and-both
-              _
-              _
-              (range-in (shapeOf m r) range)
-              (eq-eqb _ _ (bytes-length ws ∙ ap (λ (n : ℕ). 2 * n) (t .size)));
-            small = bytes-small ws (table-small (remainders-high (shapeOf m r) range) (t .table));
-            sound-words =
-              ap (sound (shapeOf m r)) words-back
-              ∙ table-is-sound (shapeOf m r) (remainders-high (shapeOf m r) range) (t .size) (t .table)
-          };
-        unlocked = ap locked words-back ∙ t .free
+            record {
+              good =
+                  and-both
+                  _
+                  _
+                  (range-in (shapeOf m r) range)
+                  (eq-eqb _ _ (bytes-length ws ∙ ap (λ (n : ℕ). 2 * n) (t .size)));
+              small = bytes-small ws (table-small (remainders-high (shapeOf m r) range) (t .table));
+              sound-words =
+                  ap (sound (shapeOf m r)) words-back
+                  ∙ table-is-sound (shapeOf m r) (remainders-high (shapeOf m r) range) (t .size) (t .table);
+            };
+        unlocked = ap locked words-back ∙ t .free;
       }
 
   pub entries-back : entries (wordsOf (bytesOf ws)) ≡ es

@@ -1,4 +1,7 @@
--- The demands as theorems about the rules' definitions. Demand1, Demand2: the statements, to be read. Lent, Proof2: what they rest on.
+-- The demands as theorems about the rules' definitions. Read Demand1, Terms and Demand2; Lent, Proof2 and Proof3 are their proofs.
 pub mod Demand1
+pub mod Terms
 pub mod Lent
 pub mod Proof2
+pub mod Proof3
+pub mod Demand2

@@ -34,21 +34,22 @@ use Rattle.theory.specs.Insert.{same-eq, same-refl, holds-insert}
 use Rattle.theory.specs.Building.{State, state-unique, place≢full, added-state}
 use Rattle.theory.specs.Adding.{Added}
 use Rattle.theory.specs.Keys.{table-inside, asc-in-shape, keys-ascend, Ascending, listed, listed-holds}
-use Rattle.demands.specs.Lent.{SoundTable, PlainTable, listOf, in-range-of, low-of, size-of, table-of, state-of}
+use Rattle.demands.specs.Terms.{SoundTable, PlainTable, listOf, Adds}
+use Rattle.demands.specs.Lent.{in-range-of, low-of, size-of, table-of, state-of}
 use Rattle.demands.specs.Lent.{words-back, plain-of, entries-back}
 
-home-of-key : (sh : Shape) (key : ℕ) → key < keys sh → HomePlace sh (split sh key .home)
+pub home-of-key : (sh : Shape) (key : ℕ) → key < keys sh → HomePlace sh (split sh key .home)
 home-of-key sh key lt =
     let i = split-in-shape sh key lt in
     record { first = i .home-low; last = i .home-high }
 
 -- the entries are the keys of the list, split
-split-keys : (sh : Shape) {es : List Entry} → All (InShape sh) es → map (split sh) (map (join sh) es) ≡ es
+pub split-keys : (sh : Shape) {es : List Entry} → All (InShape sh) es → map (split sh) (map (join sh) es) ≡ es
 split-keys sh perm.none = refl
 split-keys sh (perm.both {x = e} i is) = ap₂ _∷_ (split-join sh e i) (split-keys sh is)
 
 module _ {m r : ℕ} {bytes : List ℕ} where
-  in-shape : SoundTable m r bytes → All (InShape (shapeOf m r)) (entries (wordsOf bytes))
+  pub in-shape : SoundTable m r bytes → All (InShape (shapeOf m r)) (entries (wordsOf bytes))
   in-shape t = asc-in-shape (shapeOf m r) (low-of t) (table-inside (shapeOf m r) (low-of t) (size-of t) (table-of t))
 
   pub ascending-list : SoundTable m r bytes → Ascending (keys (shapeOf m r)) 0 (listOf m r bytes)
@@ -64,16 +65,16 @@ module _ {m r : ℕ} {bytes : List ℕ} where
 
   -- a key is listed exactly if its entry is held
   pub listed-here :
-    SoundTable m r bytes →
-    (key : ℕ) →
-    key < keys (shapeOf m r) → listed key (listOf m r bytes) ≡ holds (split (shapeOf m r) key) (entries (wordsOf bytes))
+      SoundTable m r bytes →
+      (key : ℕ) →
+      key < keys (shapeOf m r) → listed key (listOf m r bytes) ≡ holds (split (shapeOf m r) key) (entries (wordsOf bytes))
   unfolding list
   listed-here t key lt = listed-holds (shapeOf m r) key lt (in-shape t)
 
   pub find-says :
-    PlainTable m r bytes →
-    (key : ℕ) →
-    key < keys (shapeOf m r) → find m r bytes key ≡ says (bitOf (listed key (listOf m r bytes)))
+      PlainTable m r bytes →
+      (key : ℕ) →
+      key < keys (shapeOf m r) → find m r bytes key ≡ says (bitOf (listed key (listOf m r bytes)))
   unfolding find
   find-says t key lt =
       rw (t .whole .good, lt-ltb key (keys (shapeOf m r)) lt)
@@ -89,10 +90,10 @@ module _ {m r : ℕ} {bytes : List ℕ} where
       ∙ ap (λ (b : Bool). says (bitOf b)) (sym (listed-here (t .whole) key lt)))
 
 pub one-table :
-  {m r : ℕ} {bytes others : List ℕ} →
-  PlainTable m r bytes →
-  PlainTable m r others →
-  occupied (wordsOf bytes) ≡ occupied (wordsOf others) → listOf m r bytes ≡ listOf m r others → bytes ≡ others
+    {m r : ℕ} {bytes others : List ℕ} →
+    PlainTable m r bytes →
+    PlainTable m r others →
+    occupied (wordsOf bytes) ≡ occupied (wordsOf others) → listOf m r bytes ≡ listOf m r others → bytes ≡ others
 unfolding list
 one-table {m} {r} {bytes} {others} t u places-same list-same =
     same-bytes
@@ -111,6 +112,7 @@ one-table {m} {r} {bytes} {others} t u places-same list-same =
   where
     length-of : {bs : List ℕ} → PlainTable m r bs → length bs ≡ 2 * places (shapeOf m r)
     length-of {bs} v = good-table (shapeOf m r) (length bs) (v .whole .good) .1
+
     entries-same : entries (wordsOf bytes) ≡ entries (wordsOf others)
     entries-same =
         sym (split-keys (shapeOf m r) (in-shape (t .whole)))
@@ -118,7 +120,7 @@ one-table {m} {r} {bytes} {others} t u places-same list-same =
         ∙ split-keys (shapeOf m r) (in-shape (u .whole))
 
 -- keys are the same exactly if their entries are
-same-split : (sh : Shape) (x key : ℕ) → sameEntry (split sh x) (split sh key) ≡ eqb x key
+pub same-split : (sh : Shape) (x key : ℕ) → sameEntry (split sh x) (split sh key) ≡ eqb x key
 same-split sh x key = go (eqb x key) refl
   where
     go : (b : Bool) → eqb x key ≡ b → sameEntry (split sh x) (split sh key) ≡ b
@@ -136,25 +138,14 @@ same-split sh x key = go (eqb x key) refl
         go′ false s = refl
 
 -- ---- put
--- a put that adds: where, what it answers, and what it leaves
-pub record Adds (m r : ℕ) (bytes : List ℕ) (key : ℕ) : Type 0 where
-  pub after : List ℕ
-  pub filled : ℕ
-  pub named : roomFor (shapeOf m r) (occupied (wordsOf bytes)) (split (shapeOf m r) key .home) ≡ place filled
-  pub answer : put m r bytes key ≡ leaves (says 2) after
-  pub table : PlainTable m r after
-  pub places-after : occupied (wordsOf after) ≡ set (occupied (wordsOf bytes)) filled true
-  pub listed-after :
-    (x : ℕ) → x < keys (shapeOf m r) → listed x (listOf m r after) ≡ (eqb x key || listed x (listOf m r bytes))
-
 module _ {m r : ℕ} {bytes : List ℕ} (t : PlainTable m r bytes) (key : ℕ) (lt : key < keys (shapeOf m r)) where
-  cases :
-    Puts
-    (shapeOf m r)
-    (wordsOf bytes)
-    (entries (wordsOf bytes))
-    (split (shapeOf m r) key)
-    (putIn (shapeOf m r) (wordsOf bytes) (split (shapeOf m r) key))
+  pub cases :
+      Puts
+      (shapeOf m r)
+      (wordsOf bytes)
+      (entries (wordsOf bytes))
+      (split (shapeOf m r) key)
+      (putIn (shapeOf m r) (wordsOf bytes) (split (shapeOf m r) key))
   cases =
       put-table
       (shapeOf m r)
@@ -166,7 +157,7 @@ module _ {m r : ℕ} {bytes : List ℕ} (t : PlainTable m r bytes) (key : ℕ) (
       (table-of (t .whole))
       (t .unlocked)
 
-  put-by : {o : Outcome} → putIn (shapeOf m r) (wordsOf bytes) (split (shapeOf m r) key) ≡ o → put m r bytes key ≡ bytesAfter bytes o
+  pub put-by : {o : Outcome} → putIn (shapeOf m r) (wordsOf bytes) (split (shapeOf m r) key) ≡ o → put m r bytes key ≡ bytesAfter bytes o
   unfolding put
   put-by e = rw (t .whole .good, lt-ltb key (keys (shapeOf m r)) lt, e)
 
@@ -177,42 +168,42 @@ module _ {m r : ℕ} {bytes : List ℕ} (t : PlainTable m r bytes) (key : ℕ) (
   put-finds h = go (putIn (shapeOf m r) (wordsOf bytes) (split (shapeOf m r) key)) refl cases
     where
       go :
-        (o : Outcome) →
-        putIn (shapeOf m r) (wordsOf bytes) (split (shapeOf m r) key) ≡ o →
-        Puts (shapeOf m r) (wordsOf bytes) (entries (wordsOf bytes)) (split (shapeOf m r) key) o →
-        put m r bytes key ≡ leaves (says 1) bytes
+          (o : Outcome) →
+          putIn (shapeOf m r) (wordsOf bytes) (split (shapeOf m r) key) ≡ o →
+          Puts (shapeOf m r) (wordsOf bytes) (entries (wordsOf bytes)) (split (shapeOf m r) key) o →
+          put m r bytes key ≡ leaves (says 1) bytes
       go o e (found k) = put-by e
       go o e (inserted p k room added) = absurd (true≢false (sym h ∙ here ∙ k))
       go o e (overflow k room) = absurd (true≢false (sym h ∙ here ∙ k))
 
   pub put-full :
-    listed key (listOf m r bytes) ≡ false →
-    AllTaken (shapeOf m r) (occupied (wordsOf bytes)) → put m r bytes key ≡ leaves (refuses 8) bytes
+      listed key (listOf m r bytes) ≡ false →
+      AllTaken (shapeOf m r) (occupied (wordsOf bytes)) → put m r bytes key ≡ leaves (refuses 8) bytes
   put-full h every = go (putIn (shapeOf m r) (wordsOf bytes) (split (shapeOf m r) key)) refl cases
     where
       go :
-        (o : Outcome) →
-        putIn (shapeOf m r) (wordsOf bytes) (split (shapeOf m r) key) ≡ o →
-        Puts (shapeOf m r) (wordsOf bytes) (entries (wordsOf bytes)) (split (shapeOf m r) key) o →
-        put m r bytes key ≡ leaves (refuses 8) bytes
+          (o : Outcome) →
+          putIn (shapeOf m r) (wordsOf bytes) (split (shapeOf m r) key) ≡ o →
+          Puts (shapeOf m r) (wordsOf bytes) (entries (wordsOf bytes)) (split (shapeOf m r) key) o →
+          put m r bytes key ≡ leaves (refuses 8) bytes
       go o e (found k) = absurd (true≢false (sym k ∙ sym here ∙ h))
       go o e (inserted p k room added) =
           absurd (place≢full (sym room ∙ full-room (table-guarded (shapeOf m r) (size-of (t .whole)) (table-of (t .whole))) (home-of-key (shapeOf m r) key lt) every))
       go o e (overflow k room) = put-by e
 
   added-adds :
-    (p : ℕ) →
-    roomFor (shapeOf m r) (occupied (wordsOf bytes)) (split (shapeOf m r) key .home) ≡ place p →
-    Added
-    (remainders (shapeOf m r))
-    (wordsOf bytes)
-    (entries (wordsOf bytes))
-    (split (shapeOf m r) key)
-    p
-    (addAt (wordsOf bytes) (split (shapeOf m r) key) p) →
-    putIn (shapeOf m r) (wordsOf bytes) (split (shapeOf m r) key)
-    ≡ writes (says 2) (addAt (wordsOf bytes) (split (shapeOf m r) key) p) →
-    Adds m r bytes key
+      (p : ℕ) →
+      roomFor (shapeOf m r) (occupied (wordsOf bytes)) (split (shapeOf m r) key .home) ≡ place p →
+      Added
+      (remainders (shapeOf m r))
+      (wordsOf bytes)
+      (entries (wordsOf bytes))
+      (split (shapeOf m r) key)
+      p
+      (addAt (wordsOf bytes) (split (shapeOf m r) key) p) →
+      putIn (shapeOf m r) (wordsOf bytes) (split (shapeOf m r) key)
+      ≡ writes (says 2) (addAt (wordsOf bytes) (split (shapeOf m r) key) p) →
+      Adds m r bytes key
   added-adds p room added e =
       record {
         after = bytesOf vs;
@@ -222,30 +213,33 @@ module _ {m r : ℕ} {bytes : List ℕ} (t : PlainTable m r bytes) (key : ℕ) (
         table = plain;
         places-after = ap occupied (words-back m r range state) ∙ added .places;
         listed-after = λ x small.
-          listed-here (plain .whole) x small
-          ∙ ap (holds (split (shapeOf m r) x)) (entries-back m r range state)
-          ∙ holds-insert (split (shapeOf m r) x) (split (shapeOf m r) key) (entries (wordsOf bytes))
-          ∙ ap₂ _||_ (same-split (shapeOf m r) x key) (sym (listed-here (t .whole) x small))
+            listed-here (plain .whole) x small
+            ∙ ap (holds (split (shapeOf m r) x)) (entries-back m r range state)
+            ∙ holds-insert (split (shapeOf m r) x) (split (shapeOf m r) key) (entries (wordsOf bytes))
+            ∙ ap₂ _||_ (same-split (shapeOf m r) x key) (sym (listed-here (t .whole) x small));
       }
     where
       vs : List Word
       vs = addAt (wordsOf bytes) (split (shapeOf m r) key) p
+
       range : InRange (shapeOf m r)
       range = in-range-of (t .whole)
+
       state : State (shapeOf m r) vs (insert (split (shapeOf m r) key) (entries (wordsOf bytes)))
       state = added-state (state-of t) added
+
       plain : PlainTable m r (bytesOf vs)
       plain = plain-of m r range state
 
   pub put-adds :
-    listed key (listOf m r bytes) ≡ false →
-    (AllTaken (shapeOf m r) (occupied (wordsOf bytes)) → ⊥) → Adds m r bytes key
+      listed key (listOf m r bytes) ≡ false →
+      (AllTaken (shapeOf m r) (occupied (wordsOf bytes)) → ⊥) → Adds m r bytes key
   put-adds h some = go (putIn (shapeOf m r) (wordsOf bytes) (split (shapeOf m r) key)) refl cases
     where
       go :
-        (o : Outcome) →
-        putIn (shapeOf m r) (wordsOf bytes) (split (shapeOf m r) key) ≡ o →
-        Puts (shapeOf m r) (wordsOf bytes) (entries (wordsOf bytes)) (split (shapeOf m r) key) o → Adds m r bytes key
+          (o : Outcome) →
+          putIn (shapeOf m r) (wordsOf bytes) (split (shapeOf m r) key) ≡ o →
+          Puts (shapeOf m r) (wordsOf bytes) (entries (wordsOf bytes)) (split (shapeOf m r) key) o → Adds m r bytes key
       go o e (found k) = absurd (true≢false (sym k ∙ sym here ∙ h))
       go o e (inserted p k room added) = added-adds p room added e
       go o e (overflow k room) =

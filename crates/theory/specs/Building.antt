@@ -142,18 +142,18 @@ inside-insert us es e inside here x h = go (sameEntry x e) refl (sym (holds-inse
 
 -- the table after an entry was added
 pub added-state :
-  {sh : Shape} {ws : List Word} {es : List Entry} {e : Entry} {p : ℕ} {vs : List Word} →
-  State sh ws es → Added (remainders sh) ws es e p vs → State sh vs (insert e es)
+    {sh : Shape} {ws : List Word} {es : List Entry} {e : Entry} {p : ℕ} {vs : List Word} →
+    State sh ws es → Added (remainders sh) ws es e p vs → State sh vs (insert e es)
 added-state {sh} {ws} {es} {e} {p} {vs} t added =
     record {
       table = added .table;
       free = added .free (t .free);
       size =
-        sym (occupied-length vs)
-        ∙ ap length (added .places)
-        ∙ length-set (occupied ws) p true
-        ∙ occupied-length ws
-        ∙ t .size
+          sym (occupied-length vs)
+          ∙ ap length (added .places)
+          ∙ length-set (occupied ws) p true
+          ∙ occupied-length ws
+          ∙ t .size;
     }
 
 -- with room for one more, a put leaves the entry inserted

@@ -24,8 +24,8 @@ use Rattle.theory.specs.Seen.{Right, right-end, right-more, Table, table
 
 -- ---- every home of a table lies between its guards
 right-inside :
-  {d p : ℕ} {ws : List Word} {es : List Entry} (n : ℕ) →
-  d ≤ 4096 → Right d p ws es → p + length ws ≡ suc n → Asc d n (p * 4096) es
+    {d p : ℕ} {ws : List Word} {es : List Entry} (n : ℕ) →
+    d ≤ 4096 → Right d p ws es → p + length ws ≡ suc n → Asc d n (p * 4096) es
 right-inside {d} {p} n s (right-end e f) size = subst (Asc d n (p * 4096)) (sym f) none
 right-inside {d} {p} {ws} n s (right-more run g v xs ys r void rest e f) size =
     subst
@@ -41,25 +41,22 @@ right-inside {d} {p} {ws} n s (right-more run g v xs ys r void rest e f) size =
     long = ap length e ∙ length-append run (g ∷ v)
 
 pub table-inside :
-  (sh : Shape) {ws : List Word} {es : List Entry} →
-  remainders sh ≤ 4096 →
-  length ws ≡ places sh → Table (remainders sh) ws es → Asc (remainders sh) (rightGuard sh) 4096 es
+    (sh : Shape) {ws : List Word} {es : List Entry} →
+    remainders sh ≤ 4096 →
+    length ws ≡ places sh → Table (remainders sh) ws es → Asc (remainders sh) (rightGuard sh) 4096 es
 unfolding places rightGuard
 table-inside sh s size (table void right) = right-inside (homes sh + 1) s right (omega arith)
 
-pub asc-in-shape :
-  (sh : Shape) {es : List Entry} →
-  remainders sh ≤ 4096 → Asc (remainders sh) (rightGuard sh) 4096 es → All (InShape sh) es
+pub within-in-shape :
+    (sh : Shape) (e : Entry) → remainders sh ≤ 4096 → Within (remainders sh) (rightGuard sh) 4096 e → InShape sh e
 unfolding rightGuard
-asc-in-shape sh s up = perm.all-map (λ e w. in-shape e w) (asc-all up)
-  where
-    in-shape : (e : Entry) → Within (remainders sh) (homes sh + 1) 4096 e → InShape sh e
-    in-shape e w =
-        record {
-          home-low = omega (arith, w .above, w .low);
-          home-high = omega (arith, w .inside);
-          remainder-low = w .low
-        }
+within-in-shape sh e s w =
+    record { home-low = omega (arith, w .above, w .low); home-high = omega (arith, w .inside); remainder-low = w .low }
+
+pub asc-in-shape :
+    (sh : Shape) {es : List Entry} →
+    remainders sh ≤ 4096 → Asc (remainders sh) (rightGuard sh) 4096 es → All (InShape sh) es
+asc-in-shape sh s up = perm.all-map (λ e w. within-in-shape sh e s w) (asc-all up)
 
 -- ---- keys
 -- strictly ascending numbers, from b on and below c
@@ -69,8 +66,8 @@ pub data Ascending (c : ℕ) : ℕ → List ℕ → Type 0 where
 
 -- an entry with a larger code has a larger key
 join-order :
-  (sh : Shape) (e f : Entry) →
-  remainders sh ≤ 4096 → InShape sh e → InShape sh f → code e < code f → join sh e < join sh f
+    (sh : Shape) (e f : Entry) →
+    remainders sh ≤ 4096 → InShape sh e → InShape sh f → code e < code f → join sh e < join sh f
 unfolding join homeOfPlace
 join-order sh e f s i j lt = go (eqb (e .home) (f .home)) refl
   where
@@ -86,11 +83,11 @@ join-order sh e f s i j lt = go (eqb (e .home) (f .home)) refl
         omega (arith, suc-mul (e .home - 1) (remainders sh), i .remainder-low)
 
 pub keys-ascend :
-  (sh : Shape) {b : ℕ} {es : List Entry} (k : ℕ) →
-  remainders sh ≤ 4096 →
-  Asc (remainders sh) (rightGuard sh) b es →
-  All (InShape sh) es →
-  ((e : Entry) → InShape sh e → b ≤ code e → k ≤ join sh e) → Ascending (keys sh) k (map (join sh) es)
+    (sh : Shape) {b : ℕ} {es : List Entry} (k : ℕ) →
+    remainders sh ≤ 4096 →
+    Asc (remainders sh) (rightGuard sh) b es →
+    All (InShape sh) es →
+    ((e : Entry) → InShape sh e → b ≤ code e → k ≤ join sh e) → Ascending (keys sh) k (map (join sh) es)
 keys-ascend sh k s none all-in first = ascending-none
 keys-ascend sh k s (next {e = e} p q r up) (perm.both i is) first =
     ascending-next
@@ -104,8 +101,8 @@ listed key ks = any (λ (k : ℕ). eqb key k) ks
 
 -- a key is in the list exactly if its entry is held
 pub listed-holds :
-  (sh : Shape) (key : ℕ) {es : List Entry} →
-  key < keys sh → All (InShape sh) es → listed key (map (join sh) es) ≡ holds (split sh key) es
+    (sh : Shape) (key : ℕ) {es : List Entry} →
+    key < keys sh → All (InShape sh) es → listed key (map (join sh) es) ≡ holds (split sh key) es
 unfolding listed holds any
 listed-holds sh key lt perm.none = refl
 listed-holds sh key lt (perm.both {x = e} i is) = ap₂ _||_ (go (sameEntry (split sh key) e) refl) (listed-holds sh key lt is)

@@ -96,8 +96,8 @@ unfolding isVoid
 void-aside w = refl
 
 sound-from-unlock :
-  (sh : Shape) (ws : List Word) (p : ℕ) (rest : List Word) →
-  soundFrom sh (map unlock ws) p (map unlock rest) ≡ soundFrom sh ws p rest
+    (sh : Shape) (ws : List Word) (p : ℕ) (rest : List Word) →
+    soundFrom sh (map unlock ws) p (map unlock rest) ≡ soundFrom sh ws p rest
 unfolding soundFrom soundAt
 sound-from-unlock sh ws p [] = refl
 sound-from-unlock sh ws p (w ∷ rest) =
@@ -143,7 +143,7 @@ entry-unlock ws p =
     run = between ws (leftGap (occupied ws) p) (rightGap (occupied ws) p)
 
 entries-from-unlock :
-  (ws : List Word) (p : ℕ) (rest : List Word) → entriesFrom (map unlock ws) p (map unlock rest) ≡ entriesFrom ws p rest
+    (ws : List Word) (p : ℕ) (rest : List Word) → entriesFrom (map unlock ws) p (map unlock rest) ≡ entriesFrom ws p rest
 unfolding entriesFrom
 entries-from-unlock ws p [] = refl
 entries-from-unlock ws p (w ∷ rest) =
