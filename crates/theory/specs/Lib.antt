@@ -10,6 +10,7 @@ pub mod Seen
 pub mod Gaps
 pub mod Order
 pub mod Places
+pub mod Cut
 pub mod SoundTable
 pub mod Pairs
 pub mod Finding
