@@ -1,6 +1,6 @@
--- A table cut at two of its places: `cut`, and `cut-beside` with the word at one of them kept beside what lies between.
--- `cut-home`: the gaps of an occupied home place are two such places, and all that lies between is occupied. Only the guards
--- are known to be void there: the rest of the table may be unsound.
+-- A table cut at two of its places: `cut`, and `cut-beside` with the word at one of them kept beside the words between.
+-- `cut-home`: the gaps of an occupied home place are two such places, and all that lies between is occupied. Only the
+-- guards are known to be void there: the rest of the table may be unsound.
 -- Assumes nothing.
 use Prim.Native.Nat.{ℕ, suc, _+_, _-_, _≤_, _<_}
 use mathlib.Core.Path.{_≡_, refl, sym, ap, _∙_}
@@ -9,12 +9,12 @@ use mathlib.Core.List.{List, [], _∷_, _++_, append-assoc}
 use native.Mathlib.Omega.{arith}
 use lib.ListN.{length, getD, take, drop}
 use lib.Dec.{leb}
-use lib.Seq.{length-take-le, take-suc, drop-cons, split-at, drop-append-le, length-slice, getD-drop, getD-take}
+use lib.Seq.{slice, slice-cons, length-take-le, take-suc, drop-cons, split-at, drop-append-le, length-slice, getD-drop, getD-take}
 use borrow.Author.Tests.{leb-true, leb-false}
 use Rattle.rules.specs.declared.Shape.{Shape}
 use Rattle.rules.specs.Lists.{all}
 use Rattle.rules.specs.Word.{Word, zeroWord, isVoid}
-use Rattle.rules.specs.Shape.{homes, places, rightGuard}
+use Rattle.rules.specs.Shape.{places, rightGuard}
 use Rattle.rules.specs.Table.{at, occupied, leftGap, rightGap, between, guardsVoid}
 use Rattle.theory.specs.Dealt.{isOccupied, and-left, and-right, and-both}
 use Rattle.theory.specs.Gaps.{Side, Free, Taken, TakenFrom, Guarded, HomePlace, Gap, gap-is, gap-first, gap-below, gap-above}
@@ -44,6 +44,17 @@ cut ws l r ordered low =
         (take r ws)
         (at ws r ∷ drop (suc r) ws)
         (omega (arith, length-take-le r ws (omega arith)))
+
+-- the two places with what lies between
+pub cut-closed :
+    (ws : List Word) (l r : ℕ) →
+    l < r → r < length ws → slice l (suc r) ws ≡ at ws l ∷ (between ws l r ++ (at ws r ∷ []))
+cut-closed ws l r ordered low =
+    slice-cons l (suc r) ws zeroWord (omega arith) low
+    ∙ ap
+    (λ (vs : List Word). at ws l ∷ vs)
+    (ap (drop (suc l)) (take-suc ws r zeroWord low)
+    ∙ drop-append-le (suc l) (take r ws) (at ws r ∷ []) (omega (arith, length-take-le r ws (omega arith))))
 
 -- ---- with the word at one end kept beside what lies between
 
@@ -110,7 +121,8 @@ all-of f (w ∷ ws) h = and-both _ _ (h 0 (omega arith)) (all-of f ws (λ i lt. 
 
 -- all is occupied between two places if each place there is
 pub between-occupied :
-    (ws : List Word) (l r : ℕ) → r ≤ length ws → TakenFrom (occupied ws) (suc l) r → all isOccupied (between ws l r) ≡ true
+    (ws : List Word) (l r : ℕ) →
+    r ≤ length ws → TakenFrom (occupied ws) (suc l) r → all isOccupied (between ws l r) ≡ true
 between-occupied ws l r low taken =
     all-of
     isOccupied

@@ -24,3 +24,4 @@ pub mod Laid
 pub mod Side
 pub mod Enlarge
 pub mod Insertion
+pub mod Moving
