@@ -1,4 +1,4 @@
--- A table cut at two of its places: `cut`, and `cut-beside` with the word at one of them kept beside the words between.
+-- A table cut at two of its places: `cut`, and `cut-beside` with the word at one of them kept beside what is between.
 -- `cut-home`: the gaps of an occupied home place are two such places, and all that lies between is occupied. Only the
 -- guards are known to be void there: the rest of the table may be unsound.
 -- Assumes nothing.
