@@ -243,17 +243,14 @@ put-small = refl
 abbrev after : Shape → List ℕ → ℕ → List ℕ
 after sh bytes key = left (put (sh .m) (sh .r) bytes key)
 
-abbrev putsCommute : Shape → List ℕ → Bool
-putsCommute sh ns =
-    every
-    (λ (j : ℕ).
-    every
-    (λ (k : ℕ).
+abbrev eitherOrder : Shape → List ℕ → ℕ → ℕ → Bool
+eitherOrder sh ns j k =
     implies
     (leb (length (distinct sh (j ∷ k ∷ listOf sh ns))) (2 ^ sh .m))
-    (sameList (after sh (after sh (inBytes ns) j) k) (after sh (after sh (inBytes ns) k) j)))
-    (allKeys sh))
-    (allKeys sh)
+    (sameList (after sh (after sh (inBytes ns) j) k) (after sh (after sh (inBytes ns) k) j))
+
+abbrev putsCommute : Shape → List ℕ → Bool
+putsCommute sh ns = every (λ (j : ℕ). every (eitherOrder sh ns j) (upTo j)) (allKeys sh)
 
 pub puts-commute-small : every (putsCommute small) (those (isOpen small) smallWords) ≡ true
 unfolding opened
@@ -282,3 +279,92 @@ buildsAgain sh ks =
 pub build-small : every (buildsAgain small) (flatMap (listsOver (allKeys small)) (upTo 4)) ≡ true
 unfolding opened
 build-small = refl
+
+-- ---- "A refusal returns its number .. nothing lent changes": 1 and 2
+
+-- a shape, and how many bytes are lent
+record Lent : Type 0 where
+  shape : Shape
+  size : ℕ
+
+abbrev lent : ℕ → ℕ → ℕ → Lent
+lent m r n = record { shape = shapeOf m r; size = n }
+
+-- m and r out of range on either side, and lengths that are not 2 × (2^m + 2)
+abbrev badlyLent : List Lent
+badlyLent =
+    lent 0 1 6 ∷ lent 21 1 8 ∷ lent 1 0 8 ∷ lent 1 13 8 ∷ lent 1 1 0 ∷ lent 1 1 6 ∷ lent 1 1 7 ∷ lent 1 1 9 ∷ lent 1 1 10
+    ∷ lent 2 1 8 ∷ []
+
+-- every call, with a key in range and with one that is not: 1 goes before 2, and before 6 on a table full of ones
+abbrev refuses1 : ℕ → ℕ → List ℕ → ℕ → Bool
+refuses1 m r bytes key =
+    sameAnswer (find m r bytes key) (refuses 1)
+    && same (put m r bytes key) (leaves (refuses 1) bytes)
+    && same (build m r bytes (key ∷ [])) (leaves (refuses 1) bytes)
+    && same (listing m r bytes (9 ∷ [])) (leaves (refuses 1) (9 ∷ []))
+    && sameAnswer (fill m r bytes) (refuses 1)
+
+abbrev refusesBadlyLent : Lent → Bool
+refusesBadlyLent l =
+    every
+    (refuses1 (l .shape .m) (l .shape .r) (replicate (l .size) 0xFF))
+    (0 ∷ 2 ^ (l .shape .m + l .shape .r) ∷ [])
+
+pub refuses-1 : every refusesBadlyLent badlyLent ≡ true
+unfolding opened
+refuses-1 = refl
+
+-- the least and the largest m and r are not refused
+abbrev goodLent : Lent → Bool
+goodLent l = goodTable (l .shape) (l .size)
+
+abbrev wellLent : List Lent
+wellLent = lent 1 1 8 ∷ lent 1 12 8 ∷ lent 20 1 2097156 ∷ lent 20 12 2097156 ∷ []
+
+pub largest-good : every goodLent wellLent ≡ true
+unfolding opened
+largest-good = refl
+
+-- a key of 2^w or more, the first or the second of those built, on any table
+abbrev refuses2 : Small → Bool
+refuses2 t =
+    every
+    (λ (key : ℕ).
+    sameAnswer (find 1 1 (inBytes (wordsIn t)) key) (refuses 2)
+    && same (put 1 1 (inBytes (wordsIn t)) key) (leaves (refuses 2) (inBytes (wordsIn t)))
+    && same (build 1 1 (inBytes (wordsIn t)) (key ∷ 0 ∷ [])) (leaves (refuses 2) (inBytes (wordsIn t)))
+    && same (build 1 1 (inBytes (wordsIn t)) (0 ∷ key ∷ [])) (leaves (refuses 2) (inBytes (wordsIn t))))
+    (4 ∷ 8 ∷ [])
+
+pub refuses-2 : every refuses2 smallTables ≡ true
+unfolding opened
+refuses-2 = refl
+
+-- ---- the same for every sound plain table of shape (2, 1)
+
+-- a sound unlocked table is what laying its keys over its occupied places gives, so no other is like it
+abbrev laidAgain : List ℕ → Bool
+laidAgain ns =
+    sameList (inBytes ns) (bytesOf (lay (entries (tableOf ns)) 0 (occupied (tableOf ns)) (entries (tableOf ns))))
+
+abbrev asDemanded : Shape → List ℕ → Bool
+asDemanded sh ns = listAscends sh ns && laidAgain ns && findsListed sh ns && putsAsDemanded sh ns
+
+pub plain-as-demanded : every (asDemanded plain) (those (isOpen plain) plainTables) ≡ true
+unfolding opened
+plain-as-demanded = refl
+
+-- with more than two keys in the table, one of the two put is there already
+abbrev hasRoomForTwo : List ℕ → Bool
+hasRoomForTwo ns = leb (takenAmong ns) 2
+
+pub puts-commute-plain :
+    every (putsCommute plain) (those (λ (ns : List ℕ). hasRoomForTwo ns && isOpen plain ns) plainTables) ≡ true
+unfolding opened
+puts-commute-plain = refl
+
+-- every set of keys, in an order that does not ascend
+pub build-plain : every (buildsAgain plain) (sublists (6 ∷ 1 ∷ 4 ∷ 7 ∷ 0 ∷ 3 ∷ 2 ∷ 5 ∷ [])) ≡ true
+unfolding opened
+build-plain = refl
