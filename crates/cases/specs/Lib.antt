@@ -3,3 +3,4 @@
 pub mod Tables
 pub mod ByHand
 pub mod Tests
+pub mod Steps

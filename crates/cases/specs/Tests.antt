@@ -28,7 +28,7 @@ use Rattle.rules.specs.Listing.{atFront, listIn, listing}
 use Rattle.rules.specs.Fill.{figure, fill}
 
 -- all that is shut, opened at once
-unfoldable opened : Bool
+unfoldable pub opened : Bool
 unfolding count all any wordOf numberOf isVoid wordsOf bytesOf inRange homes remainders keys places rightGuard
     fitsLength goodTable placeOfHome homeOfPlace homeOf remainderOf split join sameHome sameEntry precedes
     occupied leftGap lead rightGap cluster endsInChange rising soundRun virginPlaces deal entriesBetween
@@ -41,18 +41,18 @@ opened = true
 -- ---- what the tests are made of
 
 module _ {A : Type 0} where
-  abbrev every : (A → Bool) → List A → Bool
+  abbrev pub every : (A → Bool) → List A → Bool
   every f [] = true
   every f (x ∷ xs) = f x && every f xs
 
-  abbrev those : (A → Bool) → List A → List A
+  abbrev pub those : (A → Bool) → List A → List A
   those f [] = []
   those f (x ∷ xs) = cond (f x) (x ∷ those f xs) (those f xs)
 
 abbrev implies : Bool → Bool → Bool
 implies a b = not a || b
 
-abbrev sameList : List ℕ → List ℕ → Bool
+abbrev pub sameList : List ℕ → List ℕ → Bool
 sameList [] [] = true
 sameList [] (n ∷ ns) = false
 sameList (k ∷ ks) [] = false
@@ -70,39 +70,62 @@ same (leaves a ks) (leaves b ns) = sameAnswer a b && sameList ks ns
 abbrev left : Leaves (List ℕ) → List ℕ
 left (leaves a ns) = ns
 
-abbrev upTo : ℕ → List ℕ
+abbrev pub upTo : ℕ → List ℕ
 upTo zero = []
 upTo (suc n) = upTo n ++ n ∷ []
 
 -- the keys of a shape, and the distinct ones of some keys, ascending
-abbrev allKeys : Shape → List ℕ
+abbrev pub allKeys : Shape → List ℕ
 allKeys sh = upTo (2 ^ (sh .m + sh .r))
 
 abbrev distinct : Shape → List ℕ → List ℕ
 distinct sh ks = those (λ (k : ℕ). among k ks) (allKeys sh)
 
 -- a table given by its words as numbers: as the rules see it, whether it is sound, and sound and unlocked
-abbrev tableOf : List ℕ → List Word
+abbrev pub tableOf : List ℕ → List Word
 tableOf ns = wordsOf (inBytes ns)
 
 abbrev listOf : Shape → List ℕ → List ℕ
 listOf sh ns = list sh (tableOf ns)
 
-abbrev isSound : Shape → List ℕ → Bool
+abbrev pub isSound : Shape → List ℕ → Bool
 isSound sh ns = sound sh (tableOf ns)
 
-abbrev isOpen : Shape → List ℕ → Bool
+abbrev pub isOpen : Shape → List ℕ → Bool
 isOpen sh ns = isSound sh ns && not (locked (tableOf ns))
 
 -- the two shapes and their tables
-abbrev small : Shape
+abbrev pub small : Shape
 small = shapeOf 1 1
 
-abbrev plain : Shape
+abbrev pub plain : Shape
 plain = shapeOf 2 1
 
-abbrev smallWords : List (List ℕ)
+abbrev pub smallWords : List (List ℕ)
 smallWords = map wordsIn smallTables
+
+-- ---- "Bits of a word: 0 to 11 remainder, 12 occupied, 13 virgin, 14 change, 15 lock"
+
+abbrev hasFields : ℕ → ℕ → List ℕ → Bool
+hasFields n x bits =
+    eqb (wordOf n .remainder) x
+    && sameList
+    (map bitOf (wordOf n .occupied ∷ wordOf n .virgin ∷ wordOf n .change ∷ wordOf n .lock ∷ []))
+    bits
+    && eqb (numberOf (wordOf n)) n
+
+abbrev bitsOfWord : Bool
+bitsOfWord =
+    every (λ (k : ℕ). hasFields (2 ^ k) (2 ^ k) (0 ∷ 0 ∷ 0 ∷ 0 ∷ [])) (upTo 12)
+    && hasFields 0x1FFF 0x0FFF (1 ∷ 0 ∷ 0 ∷ 0 ∷ [])
+    && hasFields 0x2000 0x0000 (0 ∷ 1 ∷ 0 ∷ 0 ∷ [])
+    && hasFields 0x4FFF 0x0FFF (0 ∷ 0 ∷ 1 ∷ 0 ∷ [])
+    && hasFields 0x8000 0x0000 (0 ∷ 0 ∷ 0 ∷ 1 ∷ [])
+    && hasFields 0xFFFF 0x0FFF (1 ∷ 1 ∷ 1 ∷ 1 ∷ [])
+
+pub bits-of-word : bitsOfWord ≡ true
+unfolding opened
+bits-of-word = refl
 
 -- ---- shape (1, 1) against ByHand
 
@@ -276,7 +299,7 @@ buildsAgain sh ks =
     (listsAndBuilds sh (distinct sh ks) (buildOver sh ks))
     (same (buildOver sh ks) (leaves (refuses 8) (replicate (size sh) 0)))
 
-pub build-small : every (buildsAgain small) (flatMap (listsOver (allKeys small)) (upTo 4)) ≡ true
+pub build-small : every (buildsAgain small) (flatMap (listsOver (allKeys small)) (upTo 5)) ≡ true
 unfolding opened
 build-small = refl
 
@@ -315,14 +338,14 @@ pub refuses-1 : every refusesBadlyLent badlyLent ≡ true
 unfolding opened
 refuses-1 = refl
 
--- the least and the largest m and r are not refused
+-- the least and the largest m and r are not refused, and the next m is, whatever the length
 abbrev goodLent : Lent → Bool
 goodLent l = goodTable (l .shape) (l .size)
 
 abbrev wellLent : List Lent
 wellLent = lent 1 1 8 ∷ lent 1 12 8 ∷ lent 20 1 2097156 ∷ lent 20 12 2097156 ∷ []
 
-pub largest-good : every goodLent wellLent ≡ true
+pub largest-good : (every goodLent wellLent && not (goodLent (lent 21 1 4194308))) ≡ true
 unfolding opened
 largest-good = refl
 
