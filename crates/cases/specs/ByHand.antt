@@ -1,8 +1,8 @@
--- Shape (1, 1) worked out by hand from document 01, word by word, without the definitions of the crate rules: what each call
--- answers and leaves on any four words. Keys 0 and 1 have their home at the first place, keys 2 and 3 at the second.
+-- Shape (1, 1) worked out by hand from document 01, without the definitions of the crate rules: what each call answers
+-- and leaves on any four words. Keys 0 and 1 have their home at the first place, keys 2 and 3 at the second.
 -- Assumes nothing.
 use Prim.Native.Nat.{ℕ, _+_, _*_, _/_, _%_}
-use mathlib.Core.Bool.{Bool, true, false, not, cond, _&&_, _||_}
+use mathlib.Core.Bool.{Bool, false, cond, _&&_, _||_}
 use mathlib.Core.List.{List, [], _∷_, _++_}
 use lib.ListN.{length, drop}
 use lib.Dec.{leb, ltb, eqb}
@@ -19,7 +19,7 @@ isLocked n = leb 0x8000 n
 abbrev taken : ℕ → Bool
 taken n = eqb (n / 0x1000 % 2) 1
 
-abbrev pub anyLocked : List ℕ → Bool
+abbrev anyLocked : List ℕ → Bool
 anyLocked [] = false
 anyLocked (n ∷ ns) = isLocked n || anyLocked ns
 
@@ -115,8 +115,8 @@ orRefused n a = cond (eqb n 0) a (refuses n)
 abbrev pub findByHand : Small → ℕ → Answer
 findByHand t key = orRefused (refusedAt t key) (says (cond (eqb (stands t key) 1) 1 0))
 
--- where there is room: an empty home takes the key; else its group of two goes over both places, which is left of the second
--- place and, the left guard being met, right of the first
+-- where there is room: an empty home takes the key; else a group of two goes over both places, its filled place being left
+-- of the second place or, since the left guard is met, right of the first
 abbrev filled : Small → ℕ → List ℕ
 filled t key =
     cond (atFirst key)

@@ -1,4 +1,4 @@
--- A lone task against put: given a key and stepped until it is done, it leaves the table that put leaves and answers as put does.
+-- A lone task against put: given a key and stepped until it is done, it leaves put's table and has put's answer.
 -- Computed over every sound unlocked small table, and the plain ones with one place left. Assumes nothing.
 use Prim.Native.Nat.{ℕ, zero, suc}
 use mathlib.Core.Path.{_≡_, refl}
@@ -11,7 +11,7 @@ use Rattle.cases.specs.Tests.{opened, every, those, sameList, allKeys, i
 use Rattle.rules.specs.declared.Shape.{Shape}
 use Rattle.rules.specs.declared.Task.{Task}
 use Rattle.rules.specs.Word.{isZero, isLock}
-use Rattle.rules.specs.Answer.{Answer, says, Leaves, leaves}
+use Rattle.rules.specs.Answer.{Answer, Leaves, leaves}
 use Rattle.rules.specs.Put.{put}
 use Rattle.rules.specs.Record.{homePlace, busy, atRest, fitsHand, fitsBusy, fits}
 use Rattle.rules.specs.Give.{given, noTask, taskAt, goodTask, giveTo, give}
@@ -21,9 +21,10 @@ use Rattle.rules.specs.Step.{ofPhase, stepOf, Lent, step}
 -- what the steps add to the shut names
 unfoldable stepsOpened : Bool
 unfolding opened isZero isLock homePlace busy atRest fitsHand fitsBusy fits given goodTask giveTo give phase.home
-    phase.lookLeft phase.lookRight phase.lockLeft phase.lockRight phase.backOff phase.readable phase.smaller phase.markOf
-    phase.handOf phase.goalOf phase.readEntries phase.read phase.movesOn phase.fillHand phase.neighbour phase.exchange
-    phase.move phase.setChange phase.setVirgin phase.marked phase.mark phase.freeLeft phase.freeRight ofPhase stepOf step
+    phase.lookLeft phase.lookRight phase.lockLeft phase.lockRight phase.backOff phase.readable phase.smaller
+    phase.markOf phase.handOf phase.goalOf phase.readEntries phase.read phase.movesOn phase.fillHand phase.neighbour
+    phase.exchange phase.move phase.setChange phase.setVirgin phase.marked phase.mark phase.freeLeft
+    phase.freeRight ofPhase stepOf step
 stepsOpened = true
 
 -- the table and one record, the task just given its key

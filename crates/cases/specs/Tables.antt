@@ -1,7 +1,6 @@
--- The small cases: every table of shape (1, 1) over a choice of words, every plain table of shape (2, 1), and lists of keys.
+-- The small cases: every table of shape (1, 1) over a choice of words, every plain table of shape (2, 1), lists of keys.
 -- Words are numbers, as document 01 writes them. Assumes nothing.
-use Prim.Native.Nat.{ℕ, zero, suc, _+_, _/_, _%_}
-use mathlib.Core.Bool.{Bool, cond}
+use Prim.Native.Nat.{ℕ, zero, suc, _/_, _%_}
 use mathlib.Core.List.{List, [], _∷_, _++_, map, flatMap}
 
 -- a lent table's bytes from its words: two bytes a word, low byte first
@@ -19,13 +18,13 @@ pub record Small : Type 0 where
 abbrev pub wordsIn : Small → List ℕ
 wordsIn t = t .leftGuard ∷ t .first ∷ t .second ∷ t .rightGuard ∷ []
 
--- for the two places: 0; occupied with remainder 0, 1 or 2, which is too large, and any virgin and change bits; stray; locked
+-- for the two places: 0; occupied with remainder 0, 1 or 2 (too large) and any virgin and change bits; stray; locked
 abbrev manyWords : List ℕ
 manyWords =
     0x0000 ∷ 0x1000 ∷ 0x1001 ∷ 0x1002 ∷ 0x3000 ∷ 0x3001 ∷ 0x3002 ∷ 0x5000 ∷ 0x5001 ∷ 0x5002 ∷ 0x7000 ∷ 0x7001 ∷ 0x7002
     ∷ 0x0001 ∷ 0x2000 ∷ 0x4000 ∷ 0x8000 ∷ 0x9000 ∷ 0xB000 ∷ 0xD001 ∷ 0xF000 ∷ 0xF001 ∷ 0xA000 ∷ []
 
--- for the two places where a guard is not 0: enough for every sound pair of words, an unsound, a stray and a locked one
+-- for the two places where a guard is not 0: enough for every sound pair, an unsound, a stray and a locked word
 abbrev fewWords : List ℕ
 fewWords = 0x0000 ∷ 0x1000 ∷ 0x3000 ∷ 0x5001 ∷ 0x7000 ∷ 0x7001 ∷ 0x2000 ∷ 0x8000 ∷ 0xF001 ∷ []
 
@@ -49,7 +48,7 @@ smallTables =
     ++ tablesOver fewWords 0x2000 0x0000
     ++ tablesOver fewWords 0x0000 0x2000
 
--- the plain tables of shape (2, 1): guards 0, and each place between them empty or occupied with a remainder of one bit
+-- for the places of a plain table: 0, or occupied with a remainder of one bit
 abbrev plainWords : List ℕ
 plainWords = 0x0000 ∷ 0x1000 ∷ 0x1001 ∷ 0x3000 ∷ 0x3001 ∷ 0x5000 ∷ 0x5001 ∷ 0x7000 ∷ 0x7001 ∷ []
 
@@ -64,6 +63,7 @@ unfoldable pub sublists : List ℕ → List (List ℕ)
 sublists [] = [] ∷ []
 sublists (n ∷ ns) = sublists ns ++ map (λ (l : List ℕ). n ∷ l) (sublists ns)
 
+-- the plain tables of shape (2, 1): guards 0, and any four plain words between them
 unfoldable pub plainTables : List (List ℕ)
 unfolding listsOver
 plainTables = map (λ (l : List ℕ). 0x0000 ∷ (l ++ 0x0000 ∷ [])) (listsOver plainWords 4)

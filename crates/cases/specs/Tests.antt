@@ -1,5 +1,5 @@
--- Demand 2 computed over the small cases. Each test is a Boolean function with the demand's words above it; each theorem says
--- that every case passes. The theorems by-hand compare every call with ByHand, on sound and unsound tables alike.
+-- Demand 2 computed over the small cases. Each test is a Boolean function with the demand's words above it; each theorem
+-- says that every case passes. The theorems by-hand compare each call with ByHand, on sound and unsound tables alike.
 -- Assumes nothing.
 use Prim.Native.Nat.{ℕ, zero, suc, _+_, _*_, _^_, _%_}
 use mathlib.Core.Path.{_≡_, refl}
@@ -7,14 +7,17 @@ use mathlib.Core.Bool.{Bool, true, false, not, cond, _&&_, _||_, Bool·beq}
 use mathlib.Core.List.{List, [], _∷_, _++_, map, flatMap}
 use lib.Dec.{ltb, leb, eqb}
 use lib.ListN.{length, replicate, set}
-use Rattle.cases.specs.Tables.{inBytes, Small, wordsIn, tablesOver, smallTables, listsOver, sublists, plainTables}
-use Rattle.cases.specs.ByHand.{among, takenAmong, soundByHand, keysByHand, findByHand, putByHand, listByHand, fillByHand}
+use Rattle.cases.specs.Tables.{inBytes, Small, wordsIn, tablesOver, smallTables}
+use Rattle.cases.specs.Tables.{listsOver, sublists, plainTables}
+use Rattle.cases.specs.ByHand.{among, takenAmong, soundByHand, keysByHand}
+use Rattle.cases.specs.ByHand.{findByHand, putByHand, listByHand, fillByHand}
 use Rattle.rules.specs.declared.Shape.{Shape}
 use Rattle.rules.specs.Lists.{bitOf, count, all, any}
 use Rattle.rules.specs.Word.{Word, wordOf, numberOf, isVoid}
 use Rattle.rules.specs.Bytes.{wordsOf, bytesOf}
 use Rattle.rules.specs.Shape.{shapeOf, inRange, homes, remainders, keys, places, rightGuard, fitsLength, goodTable}
-use Rattle.rules.specs.Entry.{placeOfHome, homeOfPlace, homeOf, remainderOf, split, join, sameHome, sameEntry, precedes}
+use Rattle.rules.specs.Entry.{placeOfHome, homeOfPlace, homeOf, remainderOf, split, join}
+use Rattle.rules.specs.Entry.{sameHome, sameEntry, precedes}
 use Rattle.rules.specs.Table.{occupied, leftGap, lead, rightGap, cluster, endsInChange, rising, soundRun, virginPlaces}
 use Rattle.rules.specs.Table.{deal, entriesBetween, clusterEntries, entryAt, entriesFrom, entries, list}
 use Rattle.rules.specs.Table.{soundAt, soundFrom, guardsVoid, sound, locked}
@@ -316,8 +319,8 @@ lent m r n = record { shape = shapeOf m r; size = n }
 -- m and r out of range on either side, and lengths that are not 2 × (2^m + 2)
 abbrev badlyLent : List Lent
 badlyLent =
-    lent 0 1 6 ∷ lent 21 1 8 ∷ lent 1 0 8 ∷ lent 1 13 8 ∷ lent 1 1 0 ∷ lent 1 1 6 ∷ lent 1 1 7 ∷ lent 1 1 9 ∷ lent 1 1 10
-    ∷ lent 2 1 8 ∷ []
+    lent 0 1 6 ∷ lent 21 1 8 ∷ lent 1 0 8 ∷ lent 1 13 8 ∷ lent 1 1 0 ∷ lent 1 1 6 ∷ lent 1 1 7 ∷ lent 1 1 9
+    ∷ lent 1 1 10 ∷ lent 2 1 8 ∷ []
 
 -- every call, with a key in range and with one that is not: 1 goes before 2, and before 6 on a table full of ones
 abbrev refuses1 : ℕ → ℕ → List ℕ → ℕ → Bool
