@@ -1,4 +1,4 @@
--- The small cases: every table of shape (1, 1) over a choice of words, every plain table of shape (2, 1), lists of keys.
+-- The small cases: the tables of shape (1, 1) over a choice of words, the plain tables of shape (2, 1), lists of keys.
 -- Words are numbers, as document 01 writes them. Assumes nothing.
 use Prim.Native.Nat.{ℕ, zero, suc, _/_, _%_}
 use mathlib.Core.List.{List, [], _∷_, _++_, map, flatMap}
