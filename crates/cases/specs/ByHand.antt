@@ -115,8 +115,8 @@ orRefused n a = cond (eqb n 0) a (refuses n)
 abbrev pub findByHand : Small → ℕ → Answer
 findByHand t key = orRefused (refusedAt t key) (says (cond (eqb (stands t key) 1) 1 0))
 
--- where there is room: an empty home takes the key; else a group of two goes over both places, the filled one being left
--- of the second or, since the left guard is met, right of the first
+-- where there is room: an empty home takes the key; else a group of two goes over both places, the filled one being
+-- left of the second or, since the left guard is met, right of the first
 abbrev filled : Small → ℕ → List ℕ
 filled t key =
     cond (atFirst key)

@@ -1,5 +1,5 @@
--- Demand 2 computed over the small cases. Each test is a Boolean function, the demand's words above it; each theorem says
--- that every case passes. The theorems by-hand compare each call with ByHand, on sound and unsound tables alike.
+-- Demand 2 computed over the small cases. Each test is a Boolean function, the demand's words above it; each theorem
+-- says that every case passes. Those by-hand compare a call with ByHand, on sound and unsound tables alike.
 -- Assumes nothing.
 use Prim.Native.Nat.{ℕ, zero, suc, _+_, _*_, _^_, _%_}
 use mathlib.Core.Path.{_≡_, refl}
@@ -381,7 +381,7 @@ asDemanded sh ns = listAscends sh ns && laidAgain ns && findsListed sh ns && put
 abbrev allOf : ℕ → List (List ℕ) → Bool
 allOf n tables = eqb (length tables) n && every (asDemanded plain) tables
 
--- 173: a cluster of n places shows any n of its 2n keys, which is 2, 6, 20 or 70 ways, over all sets of occupied places
+-- 173: a cluster of n places shows any n of its 2n keys, 2, 6, 20 or 70 ways, over all sets of occupied places
 pub plain-as-demanded : allOf 173 (those (isOpen plain) plainTables) ≡ true
 unfolding opened
 plain-as-demanded = refl
