@@ -1,0 +1,4 @@
+-- Demand 3: tasks together.
+pub mod Frames
+pub mod Invariant
+pub mod Stable
