@@ -2,3 +2,4 @@
 pub mod Frames
 pub mod Invariant
 pub mod Stable
+pub mod Update
