@@ -3,3 +3,4 @@ pub mod Frames
 pub mod Invariant
 pub mod Stable
 pub mod Update
+pub mod Facts
