@@ -270,7 +270,10 @@ module _ {sh : Shape} {ws : List Word} {e : Entry} (a : Addable sh ws e) where
     end-void gaps.left = look .left
     end-void gaps.right = look .right
 
-    readable : (side : Side) → Readable side sh ws l r e
+    -- the gaps are places as the read step finds them
+    pub readable :
+        (side : Side) →
+        Readable side sh ws (leftGap (occupied ws) (e .home)) (rightGap (occupied ws) (e .home)) e
     unfolding cluster clusterEntries
     readable side =
         record {
