@@ -1,7 +1,7 @@
 -- A payload carried in the hand: each place that the hand passes takes its neighbour's payload, and the last takes the
 -- one that is held. `Carrying` is the loop's invariant; `carry-begins`, `carry-moves`, `carry-ends` are its laws.
 -- Assumes nothing.
-use Prim.Native.Nat.{ℕ, zero, suc, _+_, _-_, _*_, _/_, _<_}
+use Prim.Native.Nat.{ℕ, zero, suc, _+_, _-_, _*_, _/_, _≤_, _<_}
 use mathlib.Core.Path.{_≡_, refl, sym, ap, ap₂, _∙_}
 use mathlib.Core.Logic.{_≢_}
 use mathlib.Core.List.{List, [], _∷_}
@@ -47,34 +47,22 @@ beside-hand hand goal apart = go (heads hand goal apart)
     go (rightward lt) = omega arith
     go (leftward lt) = omega arith
 
-pub nearer :
-    (hand goal next : ℕ) → (hand ≡ goal → ⊥) → next ≡ toward hand goal → distance next goal < distance hand goal
-nearer hand goal next apart step = rw step (omega (arith, distance-toward hand goal apart))
-
 -- a move with the payload held
 moves-held :
-    (v : Word) (ws : List Word) (hand goal : ℕ) →
+    (n : ℕ) (v : Word) (ws : List Word) (hand goal : ℕ) →
     hand < length ws →
     (hand ≡ goal → ⊥) →
-    moves (distance hand goal) (holding v ws hand) hand goal
+    moves (suc n) (holding v ws hand) hand goal
     ≡ moves
-    (distance (toward hand goal) goal)
+    n
     (holding v (set ws hand (withPayload (at ws (toward hand goal)) (at ws hand))) (toward hand goal))
     (toward hand goal)
     goal
 unfolding moves
-moves-held v ws hand goal low apart =
-    ap (λ (n : ℕ). moves n (holding v ws hand) hand goal) (distance-toward hand goal apart)
-    ∙ ap
-    (λ (us : List Word). moves (distance (toward hand goal) goal) us (toward hand goal) goal)
+moves-held n v ws hand goal low apart =
+    ap
+    (λ (us : List Word). moves n us (toward hand goal) goal)
     (exchange-held v ws hand (toward hand goal) low (beside-hand hand goal apart))
-
--- at the goal nothing is left to move
-moves-none : (ws : List Word) (hand goal : ℕ) → hand ≡ goal → moves (distance hand goal) ws hand goal ≡ ws
-unfolding moves distance
-moves-none ws hand goal same =
-    let none : (hand - goal) + (goal - hand) ≡ 0 = omega arith in
-    ap (λ (n : ℕ). moves n ws hand goal) none
 
 -- a place whose two bytes are among the lent ones has a word
 word-inside : (bs : List ℕ) (p : ℕ) → 2 * p + 1 < length bs → p < length (wordsOf bs)
@@ -84,73 +72,85 @@ word-inside (low ∷ []) p h = absurd (omega arith)
 word-inside (low ∷ high ∷ bs) zero h = omega arith
 word-inside (low ∷ high ∷ bs) (suc p) h = let i = word-inside bs p (omega arith) in omega arith
 
--- ---- the loop, on the lent bytes and the numbers of the held word and of the word that stood where the hand is
+-- ---- the loop, on the lent bytes, the numbers of the held word and of the word that stood where the hand is, and the
+-- number of moves that are left
 
-pub record Carrying (bs₀ : List ℕ) (hand₀ goal held : ℕ) (bs : List ℕ) (hand own : ℕ) : Type 0 where
+pub record Carrying (bs₀ : List ℕ) (hand₀ goal held : ℕ) (bs : List ℕ) (n hand own : ℕ) : Type 0 where
   pub size : length bs ≡ length bs₀
   pub here : 2 * hand + 1 < length bs₀
   pub there : 2 * goal + 1 < length bs₀
+  pub count : n ≡ distance hand goal
   pub stood : wordOf own ≡ at (wordsOf bs) hand
   pub rest :
       moves (distance hand₀ goal) (wordsOf bs₀) hand₀ goal
-      ≡ moves (distance hand goal) (holding (wordOf held) (wordsOf bs) hand) hand goal
+      ≡ moves n (holding (wordOf held) (wordsOf bs) hand) hand goal
 
 pub carry-begins :
-    (bs : List ℕ) (hand goal held : ℕ) →
+    (bs : List ℕ) (n hand goal held : ℕ) →
     2 * hand + 1 < length bs →
-    2 * goal + 1 < length bs → wordOf held ≡ at (wordsOf bs) hand → Carrying bs hand goal held bs hand held
-carry-begins bs hand goal held low near read =
+    2 * goal + 1 < length bs →
+    n ≡ distance hand goal →
+    wordOf held ≡ at (wordsOf bs) hand → Carrying bs hand goal held bs n hand held
+carry-begins bs n hand goal held low near count read =
     record {
       size = refl;
       here = low;
       there = near;
+      count = count;
       stood = read;
       rest =
-          ap
-          (λ (us : List Word). moves (distance hand goal) us hand goal)
-          (sym (set-getD (wordsOf bs) hand zeroWord)
-          ∙ ap (λ (v : Word). holding v (wordsOf bs) hand) (sym read));
+          ap₂
+          (λ (m : ℕ) (us : List Word). moves m us hand goal)
+          (sym count)
+          (sym (set-getD (wordsOf bs) hand zeroWord) ∙ ap (λ (v : Word). holding v (wordsOf bs) hand) (sym read));
     }
 
-module _ {bs₀ : List ℕ} {hand₀ goal held : ℕ} {bs : List ℕ} {hand own : ℕ}
-    (c : Carrying bs₀ hand₀ goal held bs hand own)
+module _ {bs₀ : List ℕ} {hand₀ goal held : ℕ} {bs : List ℕ} {n hand own : ℕ}
+    (c : Carrying bs₀ hand₀ goal held bs n hand own)
   where
-    -- the neighbour is a place of the table
-    pub carry-near : (next : ℕ) → (hand ≡ goal → ⊥) → next ≡ toward hand goal → 2 * next + 1 < length bs
-    carry-near next apart step =
-        omega (arith, toward-lt hand goal (length bs₀ / 2) apart (omega arith) (omega arith))
+    -- while moves are left the hand is apart from its goal, and its neighbour is a place of the table
+    pub carry-apart : 0 < n → hand ≡ goal → ⊥
+    unfolding distance
+    carry-apart more same = omega (arith, c .count)
+
+    pub carry-near : (next : ℕ) → 0 < n → next ≡ toward hand goal → 2 * next + 1 < length bs
+    carry-near next more step =
+        omega (arith, toward-lt hand goal (length bs₀ / 2) (carry-apart more) (omega arith) (omega arith))
 
     -- the neighbour's word is read, and its payload written at the hand
     pub carry-moves :
         (next w k : ℕ) (cs : List ℕ) →
-        (hand ≡ goal → ⊥) →
+        0 < n →
         next ≡ toward hand goal →
         wordOf w ≡ at (wordsOf bs) next →
         wordOf k ≡ withPayload (wordOf w) (wordOf own) →
         length cs ≡ length bs →
-        wordsOf cs ≡ set (wordsOf bs) hand (wordOf k) → Carrying bs₀ hand₀ goal held cs next w
-    carry-moves next w k cs apart step read made size write =
+        wordsOf cs ≡ set (wordsOf bs) hand (wordOf k) → Carrying bs₀ hand₀ goal held cs (n - 1) next w
+    carry-moves next w k cs more step read made size write =
         record {
           size = size ∙ c .size;
-          here = omega (arith, carry-near next apart step);
+          here = omega (arith, carry-near next more step);
           there = c .there;
+          count = rw step (omega (arith, c .count, distance-toward hand goal apart));
           stood =
               read
               ∙ sym (getD-set-other (wordsOf bs) hand next (wordOf k) zeroWord aside)
               ∙ ap (λ (us : List Word). at us next) (sym write);
           rest =
               c .rest
-              ∙ moves-held (wordOf held) (wordsOf bs) hand goal (word-inside bs hand (omega arith)) apart
-              ∙ (λ j.
-              moves
-              (distance (sym step j) goal)
-              (holding (wordOf held) (sym written j) (sym step j))
-              (sym step j)
-              goal);
+              ∙ ap (λ (m : ℕ). moves m (holding (wordOf held) (wordsOf bs) hand) hand goal) one-more
+              ∙ moves-held (n - 1) (wordOf held) (wordsOf bs) hand goal (word-inside bs hand (omega arith)) apart
+              ∙ (λ j. moves (n - 1) (holding (wordOf held) (sym written j) (sym step j)) (sym step j) goal);
         }
       where
+        apart : hand ≡ goal → ⊥
+        apart = carry-apart more
+
         aside : next ≢ hand
         aside = rw step (beside-hand hand goal apart)
+
+        one-more : n ≡ suc (n - 1)
+        one-more = omega arith
 
         written :
             wordsOf cs
@@ -161,15 +161,17 @@ module _ {bs₀ : List ℕ} {hand₀ goal held : ℕ} {bs : List ℕ} {hand own 
             (set (wordsOf bs) hand)
             (made ∙ ap₂ withPayload (read ∙ ap (at (wordsOf bs)) step) (c .stood))
 
-    -- at the goal the held payload is written
+    -- where none is left the held payload is written
     pub carry-ends :
         (k : ℕ) (cs : List ℕ) →
-        hand ≡ goal →
+        n ≤ 0 →
         wordOf k ≡ withPayload (wordOf held) (wordOf own) →
         wordsOf cs ≡ set (wordsOf bs) hand (wordOf k) →
         wordsOf cs ≡ moves (distance hand₀ goal) (wordsOf bs₀) hand₀ goal
-    carry-ends k cs same made write =
+    unfolding moves
+    carry-ends k cs none made write =
+        let end : n ≡ 0 = omega arith in
         write
         ∙ ap (set (wordsOf bs) hand) (made ∙ ap (withPayload (wordOf held)) (c .stood))
-        ∙ sym (moves-none (holding (wordOf held) (wordsOf bs) hand) hand goal same)
+        ∙ ap (λ (m : ℕ). moves m (holding (wordOf held) (wordsOf bs) hand) hand goal) (sym end)
         ∙ sym (c .rest)

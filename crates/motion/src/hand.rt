@@ -10,7 +10,7 @@ ghost use lib.ListN.{length};
 ghost use Rattle.rules.specs.Bytes.{wordsOf};
 ghost use Rattle.rules.specs.Phase as phase;
 ghost use Rattle.theory.specs.Motion as motion;
-ghost use Rattle.theory.specs.Motion.{fillAt, moves, distance};
+ghost use Rattle.theory.specs.Motion.{fillAt, moves};
 
 pub fn fill_at(table: &mut [u8], p: Place, x: u16)
     requires { ⌜ 2 * p .0 + 1 < length (now table) ⌝ ∗ ⌜ x < 4096 ⌝ }
@@ -42,21 +42,34 @@ pub fn toward(hand: Place, goal: Place) -> Place
     }
 }
 
+// How many moves there are to the goal.
+fn distance(hand: Place, goal: Place) -> u32
+    ensures { λ n. ⌜ n ≡ motion.distance (hand .0) (goal .0) ⌝ }
+{
+    if hand.0 < goal.0 {
+        goal.0 - hand.0
+    } else {
+        hand.0 - goal.0
+    }
+}
+
 // The moves to the goal, with the payload held back until the end: one read and one write a move.
 pub fn carry(table: &mut [u8], hand: Place, goal: Place)
     requires { ⌜ 2 * hand .0 + 1 < length (now table) ⌝ ∗ ⌜ 2 * goal .0 + 1 < length (now table) ⌝ }
     ensures { λ _. ⌜ wordsOf (now (table .exit))
-        ≡ moves (distance (hand .0) (goal .0)) (wordsOf (now (table .entry))) (hand .0) (goal .0) ⌝ }
+        ≡ moves (motion.distance (hand .0) (goal .0)) (wordsOf (now (table .entry))) (hand .0) (goal .0) ⌝ }
 {
     let held = word_at(table, hand);
+    let mut left = distance(hand, goal);
     let mut here = hand;
     let mut own = held;
-    while here.0 != goal.0 {
+    while left > 0 {
         let next = toward(here, goal);
         let w = word_at(table, next);
         set_word(table, here, with_payload(w, own));
         here = next;
         own = w;
+        left -= 1;
     }
     set_word(table, here, with_payload(held, own));
 }

@@ -1,43 +1,53 @@
--- `carry` meets its contract. The invariant: what is left to move, with the held payload at the hand, gives what all
--- the moves give from the start. The measure is the distance to the goal.
+-- `carry` meets its contract. The invariant: the moves that are left, with the held payload at the hand, give what all
+-- the moves give from the start. The measure is the number of moves that are left.
 -- Assumes nothing.
 use borrow.Author.Needs.{needs}
+use native.Mathlib.Omega.{arith}
 use denote.Ref.{now}
-use Rattle.theory.specs.Motion.{distance}
-use Rattle.motion.specs.Carry.{Carrying, nearer, carry-begins, carry-near, carry-moves, carry-ends}
+use Rattle.motion.specs.Carry.{Carrying, carry-begins, carry-apart, carry-near, carry-moves, carry-ends}
 use Rattle.motion.proofs.hand.carry.Statement.{statement}
 use Rattle.motion.proofs.hand.carry.Tie as tie
 
 abbrev Inv-loop : tie.InvT-loop
-Inv-loop table₀ goal held here₀ own₀ table here own = Carrying table₀ (here₀ .0) (goal .0) held table (here .0) own
+Inv-loop table₀ goal held left₀ here₀ own₀ table left here own =
+    Carrying table₀ (here₀ .0) (goal .0) held table left (here .0) own
 
 abbrev μ-loop : tie.MeasureT-loop
-μ-loop table₀ goal held here₀ own₀ table here own = distance (here .0) (goal .0)
+μ-loop table₀ goal held left₀ here₀ own₀ table left here own = left
 
 word-at-requires : tie.Need-word-at-requires Inv-loop μ-loop
 word-at-requires c κs = search needs
 
+distance-requires : tie.Need-distance-requires Inv-loop μ-loop
+distance-requires c κs = search needs
+
 loop-holds : tie.Need-loop-holds Inv-loop μ-loop
 loop-holds c =
-    let start = c .before .before .before in
+    let read = c .before in
+    let start = read .before .before .before in
     carry-begins
     (now (start .args .table))
+    (c .distance .result)
     (start .args .hand .0)
     (start .args .goal .0)
-    (c .word-at .result)
+    (read .word-at .result)
     (start .pre .0)
     (start .pre .1)
-    (c .word-at .ensures)
+    (c .distance .ensures)
+    (read .word-at .ensures)
 
 toward-requires : tie.Need-toward-requires Inv-loop μ-loop
-toward-requires c κs = c .if1 .taken
+toward-requires c κs = carry-apart (c .before .loop .inv) (omega (arith, c .loop-test .taken))
 
 word-at-requires-2 : tie.Need-word-at-requires-2 Inv-loop μ-loop
 word-at-requires-2 c κs =
     let went = c .before in
     let turn = went .before in
-    let head = turn .before .before .before in
-    carry-near (head .loop .inv) (went .toward .result .0) (turn .if1 .taken) (went .toward .ensures)
+    carry-near
+    (turn .before .loop .inv)
+    (went .toward .result .0)
+    (omega (arith, turn .loop-test .taken))
+    (went .toward .ensures)
 
 with-payload-requires : tie.Need-with-payload-requires Inv-loop μ-loop
 with-payload-requires c κs = search needs
@@ -45,16 +55,11 @@ with-payload-requires c κs = search needs
 set-word-requires : tie.Need-set-word-requires Inv-loop μ-loop
 set-word-requires c κs = search needs
 
+sub-left : tie.Need-sub-left Inv-loop μ-loop
+sub-left c = search needs
+
 loop-less : tie.Need-loop-less Inv-loop μ-loop
-loop-less c =
-    let went = c .before .before .before .before .before .before .before in
-    let turn = went .before in
-    nearer
-    (turn .before .before .before .loop .here .0)
-    (turn .before .before .before .before .before .before .before .args .goal .0)
-    (went .toward .result .0)
-    (turn .if1 .taken)
-    (went .toward .ensures)
+loop-less c = search needs
 
 loop-again : tie.Need-loop-again Inv-loop μ-loop
 loop-again c =
@@ -62,14 +67,13 @@ loop-again c =
     let read = wrote .before .before .before in
     let went = read .before .before in
     let turn = went .before in
-    let head = turn .before .before .before in
     carry-moves
-    (head .loop .inv)
+    (turn .before .loop .inv)
     (went .toward .result .0)
     (read .word-at2 .result)
     (wrote .before .with-payload .result)
     (wrote .set-word .last .0)
-    (turn .if1 .taken)
+    (omega (arith, turn .loop-test .taken))
     (went .toward .ensures)
     (read .word-at2 .ensures)
     (wrote .before .with-payload .ensures)
@@ -89,12 +93,11 @@ returns : tie.Need-returns Inv-loop μ-loop
 returns c =
     let wrote = c .before .before in
     let left = wrote .before .before .before in
-    let head = left .before .before .before in
     carry-ends
-    (head .loop .inv)
+    (left .before .loop .inv)
     (wrote .before .with-payload2 .result)
     (wrote .set-word2 .last .0)
-    (left .if1 .left)
+    (omega (arith, left .loop-test .left))
     (wrote .before .with-payload2 .ensures)
     (wrote .set-word2 .ensures)
 
@@ -105,11 +108,13 @@ carry-spec =
     Inv-loop
     μ-loop
     word-at-requires
+    distance-requires
     loop-holds
     toward-requires
     word-at-requires-2
     with-payload-requires
     set-word-requires
+    sub-left
     loop-less
     loop-again
     with-payload-requires-2
