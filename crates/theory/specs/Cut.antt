@@ -111,7 +111,7 @@ cut-beside gaps.right ws l r ordered low =
 
 -- ---- what lies between two places, word by word
 
-between-at : (ws : List Word) (l r i : ℕ) → suc l + i < r → at (between ws l r) i ≡ at ws (suc l + i)
+pub between-at : (ws : List Word) (l r i : ℕ) → suc l + i < r → at (between ws l r) i ≡ at ws (suc l + i)
 between-at ws l r i low = getD-drop (suc l) (take r ws) i zeroWord ∙ getD-take r ws (suc l + i) zeroWord low
 
 all-of : (f : Word → Bool) (ws : List Word) → ((i : ℕ) → i < length ws → f (at ws i) ≡ true) → all f ws ≡ true

@@ -4,3 +4,4 @@ pub mod Invariant
 pub mod Stable
 pub mod Update
 pub mod Facts
+pub mod Fitting
