@@ -35,7 +35,7 @@ use Rattle.together.specs.Invariant.{moving, marking, frees-left, frees-
 use Rattle.together.specs.Update.{same-or-not}
 
 -- ---- which task is unfinished at a place, if any
-in-order : (a b : ℕ) → (a ≤ b) ⊎ (b < a)
+pub in-order : (a b : ℕ) → (a ≤ b) ⊎ (b < a)
 in-order a b = go (leb a b) refl
   where
     go : (t : Bool) → leb a b ≡ t → (a ≤ b) ⊎ (b < a)

@@ -5,3 +5,4 @@ pub mod Stable
 pub mod Update
 pub mod Facts
 pub mod Fitting
+pub mod Quiet
