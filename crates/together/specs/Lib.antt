@@ -6,3 +6,4 @@ pub mod Update
 pub mod Facts
 pub mod Fitting
 pub mod Quiet
+pub mod Stretch
