@@ -120,7 +120,7 @@ all-of f [] h = refl
 all-of f (w ∷ ws) h = and-both _ _ (h 0 (omega arith)) (all-of f ws (λ i lt. h (suc i) (omega arith)))
 
 -- all is occupied between two places if each place there is
-between-occupied :
+pub between-occupied :
     (ws : List Word) (l r : ℕ) →
     r ≤ length ws → TakenFrom (occupied ws) (suc l) r → all isOccupied (between ws l r) ≡ true
 between-occupied ws l r low taken =

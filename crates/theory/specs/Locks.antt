@@ -82,7 +82,7 @@ drop-map zero ws = refl
 drop-map (suc n) [] = refl
 drop-map (suc n) (w ∷ ws) = drop-map n ws
 
-between-unlock : (ws : List Word) (l r : ℕ) → between (map unlock ws) l r ≡ map unlock (between ws l r)
+pub between-unlock : (ws : List Word) (l r : ℕ) → between (map unlock ws) l r ≡ map unlock (between ws l r)
 between-unlock ws l r = ap (drop (suc l)) (take-map r ws) ∙ drop-map (suc l) (take r ws)
 
 cluster-unlock : (ws : List Word) (p : ℕ) → cluster (map unlock ws) p ≡ map unlock (cluster ws p)

@@ -208,13 +208,13 @@ pub record Addable (sh : Shape) (ws : List Word) (e : Entry) : Type 0 where
   pub new : holds e (clusterEntries ws (e .home)) ≡ false
 
 -- the parts of sound surroundings
-record SoundAround (sh : Shape) (ws : List Word) (h : ℕ) : Type 0 where
-  guards : guardsVoid sh ws ≡ true
-  left : isVoid (at ws (leftGap (occupied ws) h)) ≡ true
-  right : isVoid (at ws (rightGap (occupied ws) h)) ≡ true
-  run : soundRun sh (cluster ws h) ≡ true
+pub record SoundAround (sh : Shape) (ws : List Word) (h : ℕ) : Type 0 where
+  pub guards : guardsVoid sh ws ≡ true
+  pub left : isVoid (at ws (leftGap (occupied ws) h)) ≡ true
+  pub right : isVoid (at ws (rightGap (occupied ws) h)) ≡ true
+  pub run : soundRun sh (cluster ws h) ≡ true
 
-sound-around : (sh : Shape) (ws : List Word) (h : ℕ) → soundAround sh ws h ≡ true → SoundAround sh ws h
+pub sound-around : (sh : Shape) (ws : List Word) (h : ℕ) → soundAround sh ws h ≡ true → SoundAround sh ws h
 unfolding soundAround
 sound-around sh ws h sound =
     let words = and-left (guardsVoid sh ws && _) (soundRun sh (cluster ws h)) sound in

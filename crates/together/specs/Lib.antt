@@ -7,3 +7,5 @@ pub mod Facts
 pub mod Fitting
 pub mod Quiet
 pub mod Stretch
+pub mod Around
+pub mod Walk

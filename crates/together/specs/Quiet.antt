@@ -131,7 +131,7 @@ still {sh} {ws} {ts} {laid} {shown} i t′ low inv stage more less same open-sti
 
 -- ---- steps that set or clear one lock
 module _ (ws : List Word) (p : ℕ) (b : Bool) (lt : p < length ws) where
-  pub relocked : List Word
+  unfoldable pub relocked : List Word
   relocked = set ws p (withLock b (at ws p))
 
   relocked-at : (q : ℕ) → ((q ≡ p) × (at relocked q ≡ withLock b (at ws p))) ⊎ (at relocked q ≡ at ws q)
