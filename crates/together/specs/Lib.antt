@@ -9,3 +9,4 @@ pub mod Quiet
 pub mod Stretch
 pub mod Around
 pub mod Walk
+pub mod Reading

@@ -153,6 +153,33 @@ free-end a b (marking e k x n y) = (moving-end y, x)
 free-end a b (frees-left e k x y) = absurd (omega arith)
 free-end a b (frees-right e k x y) = absurd (omega arith)
 
+pub weight-low : (u : Task) → u .phase ≤ 8 → weight u ≡ 0
+weight-low u le =
+    ap₂
+    (λ (a b : Bool). bitOf ((a && leb (u .phase) 10) || (b && leb (u .phase) 13 && eqb (u .answer) 2)))
+    (lt-leb 9 (u .phase) (omega arith))
+    (lt-leb 11 (u .phase) (omega arith))
+
+-- a record with the same key and the same ends has looked as far
+pub looked-as :
+  {sh : Shape} {vs : List Word} (u u′ : Task) →
+  u′ .key ≡ u .key → u′ .left ≡ u .left → u′ .right ≡ u .right → Looked sh vs u → Looked sh vs u′
+unfolding homePlace
+looked-as {sh} {vs} u u′ k l r x =
+    record {
+      leftward =
+        record {
+          below = omega (arith, home, x .leftward .below);
+          taken = λ q a b. x .leftward .taken q (omega arith) (omega (arith, home))
+        };
+      above = omega (arith, home, x .above);
+      inside = omega (arith, x .inside);
+      taken = λ q a b. x .taken q (omega (arith, home)) (omega arith)
+    }
+  where
+    home : split sh (u′ .key) .home ≡ split sh (u .key) .home
+    home = ap (λ (key : ℕ). split sh key .home) k
+
 module _ {sh : Shape} {ws : List Word} {ts : List Task} {laid : List Word} {shown : List Entry}
   (low : remainders sh ≤ 4096) (inv : Inv sh ws ts laid shown) (i : ℕ) (lt : i < length ts)
   where
@@ -200,14 +227,7 @@ module _ {sh : Shape} {ws : List Word} {ts : List Task} {laid : List Word} {show
       (λ (r : Reserves t′). absurd (omega (arith, r .from-7)))
       (λ p (u : Unfinished t p). absurd (omega (arith, u .from-9)))
 
-  weight-low : (u : Task) → u .phase ≤ 8 → weight u ≡ 0
-  weight-low u le =
-      ap₂
-      (λ (a b : Bool). bitOf ((a && leb (u .phase) 10) || (b && leb (u .phase) 13 && eqb (u .answer) 2)))
-      (lt-leb 9 (u .phase) (omega arith))
-      (lt-leb 11 (u .phase) (omega arith))
-
-  quiet-low : (t′ : Task) → t .phase ≤ 8 → t′ .phase ≤ 8 → Effect sh t t′ laid shown laid shown
+  pub quiet-low : (t′ : Task) → t .phase ≤ 8 → t′ .phase ≤ 8 → Effect sh t t′ laid shown laid shown
   quiet-low t′ a b = keeps (weight-low t′ b ∙ sym (weight-low t a))
 
   -- phase 1: a locked home is waited for
@@ -359,17 +379,6 @@ module _ {sh : Shape} {ws : List Word} {ts : List Task} {laid : List Word} {show
           go q a (inl e) b = subst (Occupied ws) (sym e) taken
           go q a (inr n) b = x .taken q a (omega arith)
 
-  -- the same record in another phase has looked as far
-  pub looked-at : {vs : List Word} (u : Task) (n : ℕ) → Looked sh vs u → Looked sh vs (toPhase n u)
-  unfolding homePlace
-  looked-at u n x =
-      record {
-        leftward = record { below = x .leftward .below; taken = x .leftward .taken };
-        above = x .above;
-        inside = x .inside;
-        taken = x .taken
-      }
-
   walk-right-stop :
     t .phase ≡ 3 → t .key < keys sh → Looked sh ws t → at ws (t .right) .occupied ≡ false → Walked sh ws ts laid shown i
   unfolding phase.lookRight
@@ -381,7 +390,7 @@ module _ {sh : Shape} {ws : List Word} {ts : List Task} {laid : List Word} {show
         shown-after = shown;
         step = step-by 3 (omega arith) (omega arith) p (rw free);
         shows =
-          free-step (toPhase 4 t) (omega arith) (omega arith) (looks-right (omega arith) (omega arith) k (looked-at t 4 x));
+          free-step (toPhase 4 t) (omega arith) (omega arith) (looks-right (omega arith) (omega arith) k (looked-as t (toPhase 4 t) refl refl refl x));
         same-key = refl;
         ends = λ e. absurd (omega arith);
         effect = quiet-low (toPhase 4 t) (omega arith) (omega arith)
@@ -436,7 +445,7 @@ module _ {sh : Shape} {ws : List Word} {ts : List Task} {laid : List Word} {show
           (omega arith)
           (omega arith)
           k
-          (looked-at t 5 (relock-looked t (t .left) true inside x))
+          (looked-as t (toPhase 5 t) refl refl refl (relock-looked t (t .left) true inside x))
           (relocked-here ws (t .left) true inside ∙ ap (withLock true) was-zero))
           (λ u a s.
           record {
@@ -481,7 +490,7 @@ module _ {sh : Shape} {ws : List Word} {ts : List Task} {laid : List Word} {show
           (toPhase 6 t)
           low
           inv
-          (owns-left (omega arith) (omega arith) k (looked-at t 6 x) held)
+          (owns-left (omega arith) (omega arith) k (looked-as t (toPhase 6 t) refl refl refl x) held)
           (λ q o. same q o)
           (λ q o. back q o)
           (λ (r : Reserves (toPhase 6 t)). absurd (omega (arith, r .from-7)))
@@ -567,7 +576,7 @@ module _ {sh : Shape} {ws : List Word} {ts : List Task} {laid : List Word} {show
           (owns-both
           refl
           k
-          (looked-at t 7 (relock-looked t (t .right) true inside x))
+          (looked-as t (toPhase 7 t) refl refl refl (relock-looked t (t .right) true inside x))
           (relocked-other ws (t .right) true inside (t .left) (λ (e : t .left ≡ t .right). omega (arith, x .leftward .below, x .above)) ∙ held)
           (relocked-here ws (t .right) true inside ∙ ap (withLock true) was-zero))
           (λ u a s.
