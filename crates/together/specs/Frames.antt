@@ -12,7 +12,7 @@ use lib.Seq.{slice, length-slice, length-take-le, take-take, getD-append-add, ge
 use Rattle.rules.specs.Word.{Word, zeroWord, withRemainder}
 use Rattle.rules.specs.Table.{at, occupied}
 use Rattle.theory.specs.Run.{unlock}
-use Rattle.theory.specs.Places.{occupied-at}
+use Rattle.theory.specs.Places.{occupied-at, occupied-length}
 use Rattle.theory.specs.Motion.{fillAt, finish}
 use Rattle.theory.specs.Region.{locks, length-locks, finish-locks, finish-within}
 
@@ -169,3 +169,15 @@ locks-at ws vs p e =
 
 pub occupied-same : (ws vs : List Word) (p : ℕ) → occupied ws ≡ occupied vs → at ws p .occupied ≡ at vs p .occupied
 occupied-same ws vs p e = sym (occupied-at ws p) ∙ ap (λ (bs : List Bool). getD bs p false) e ∙ occupied-at vs p
+
+-- words with the same places occupied, place by place
+pub occupied-by :
+  (ws vs : List Word) →
+  length ws ≡ length vs → ((p : ℕ) → at ws p .occupied ≡ at vs p .occupied) → occupied ws ≡ occupied vs
+occupied-by ws vs size alike =
+    ext-getD
+    false
+    (occupied ws)
+    (occupied vs)
+    (occupied-length ws ∙ size ∙ sym (occupied-length vs))
+    (λ p lt. occupied-at ws p ∙ alike p ∙ sym (occupied-at vs p))

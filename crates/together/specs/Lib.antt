@@ -10,3 +10,4 @@ pub mod Stretch
 pub mod Around
 pub mod Walk
 pub mod Reading
+pub mod Finishing

@@ -90,6 +90,10 @@ pub upTo-le : (side : Side) (r : ℕ) → upTo side r ≤ suc r
 upTo-le gaps.left r = omega arith
 upTo-le gaps.right r = omega arith
 
+pub fills-as : (side : Side) (t t′ : Task) → t′ .left ≡ t .left → Fills side t → Fills side t′
+fills-as gaps.left t t′ e f = λ z. f (sym e ∙ z)
+fills-as gaps.right t t′ e f = e ∙ f
+
 -- finishing, for two tables that agree between a task's ends, locks aside
 pub finish-same :
   (sh : Shape) (ws vs : List Word) (t : Task) (side : Side) →

@@ -10,7 +10,7 @@ use native.Mathlib.Omega.{arith}
 use native.Mathlib.Nat.{le-refl}
 use lib.ListN.{length, set}
 use lib.Dec.{eqb, leb}
-use borrow.Author.Tests.{ne-eqb, eqb-true, lt-leb}
+use borrow.Author.Tests.{ne-eqb, eqb-true, le-leb, lt-leb}
 use Rattle.rules.specs.declared.Shape.{Shape}
 use Rattle.rules.specs.declared.Task.{Task}
 use Rattle.rules.specs.Lists.{bitOf}
@@ -152,6 +152,13 @@ free-end a b (moving e k x n y) = (moving-end y, x)
 free-end a b (marking e k x n y) = (moving-end y, x)
 free-end a b (frees-left e k x y) = absurd (omega arith)
 free-end a b (frees-right e k x y) = absurd (omega arith)
+
+pub weight-moving : (u : Task) → 9 ≤ u .phase → u .phase ≤ 10 → weight u ≡ 1
+weight-moving u a b =
+    ap₂
+    (λ (c d : Bool). bitOf ((c && d) || (within 11 13 (u .phase) && eqb (u .answer) 2)))
+    (le-leb 9 (u .phase) a)
+    (le-leb (u .phase) 10 b)
 
 pub weight-low : (u : Task) → u .phase ≤ 8 → weight u ≡ 0
 weight-low u le =
