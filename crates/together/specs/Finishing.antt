@@ -3,12 +3,12 @@
 use Prim.Native.Nat.{ℕ, suc, _+_, _-_, _≤_, _<_}
 use mathlib.Core.Path.{_≡_, refl, sym, ap, ap₂, _∙_, subst}
 use mathlib.Core.Logic.{_⊎_, _≢_, inl, inr}
-use mathlib.Core.Bool.{Bool, true, false, cond, _&&_, true≢false, false≢true}
+use mathlib.Core.Bool.{Bool, true, false, cond, _&&_, _||_, true≢false, false≢true}
 use mathlib.Core.List.{List}
 use native.Mathlib.Omega.{arith}
 use lib.ListN.{length, set, length-set}
-use lib.Dec.{eqb}
-use borrow.Author.Tests.{eqb-true, eqb-false}
+use lib.Dec.{eqb, leb}
+use borrow.Author.Tests.{eqb-true, eqb-false, le-leb, lt-leb}
 use Rattle.rules.specs.declared.Shape.{Shape}
 use Rattle.rules.specs.declared.Task.{Task}
 use Rattle.rules.specs.Lists.{bitOf}
@@ -450,3 +450,120 @@ module _ {sh : Shape} {ws : List Word} {ts : List Task} {laid : List Word} {show
         back : (q : ℕ) → Owns next q → Owns t q
         back q (by-left c d e) = by-left (omega arith) (omega arith) e
         back q (by-right c d e) = by-right (omega arith) (omega arith) e
+
+  -- ---- phases 11 and 12
+  -- what is owned on the right once the left is free
+  right-of-ends :
+    {vs : List Word} (n : ℕ) → at vs (t .right) ≡ at ws (t .right) → Ends sh ws shown t → RightEnd sh vs shown (toPhase n t)
+  right-of-ends n same (ends-found a h l r) = right-found a h (same ∙ r)
+  right-of-ends n same (ends-full a l r) = right-full a (same ∙ r)
+  right-of-ends n same (ends-inserted a h gaps.left f x y) = right-waiting a h (same ∙ y)
+  right-of-ends n same (ends-inserted a h gaps.right f x y) =
+      right-filled
+      a
+      h
+      (record {
+        taken = ap (λ (w : Word). w .occupied) same ∙ x .taken;
+        kept = ap (λ (w : Word). w .lock) same ∙ x .kept
+      })
+
+  weight-late : (u : Task) → 11 ≤ u .phase → u .phase ≤ 13 → weight u ≡ bitOf (eqb (u .answer) 2)
+  weight-late u a b =
+      ap₂ (λ (c d : Bool). bitOf ((leb 9 (u .phase) && c) || (d && leb (u .phase) 13 && eqb (u .answer) 2)))
+      (lt-leb (u .phase) 10 (omega arith))
+      (le-leb 11 (u .phase) a)
+      ∙ ap₂
+      (λ (c d : Bool). bitOf ((c && false) || (d && eqb (u .answer) 2)))
+      (le-leb 9 (u .phase) (omega arith))
+      (le-leb (u .phase) 13 b)
+
+  pub walk-free-left :
+    t .phase ≡ 11 → t .key < keys sh → Looked sh ws t → Ends sh ws shown t → Walked sh ws ts laid shown i
+  unfolding phase.freeLeft relocked
+  walk-free-left p k x ends =
+      record {
+        next = toPhase 12 t;
+        words = relocked ws (t .left) false inside;
+        laid-after = laid;
+        shown-after = shown;
+        step = step-by low inv i lt 11 (omega arith) (omega arith) p refl;
+        shows =
+          relock
+          i
+          (toPhase 12 t)
+          low
+          inv
+          (t .left)
+          false
+          inside
+          (λ u a s o. a .owners (t .left) (by-left (omega arith) (omega arith) refl) o)
+          (frees-right
+          refl
+          k
+          (looked-as t (toPhase 12 t) refl refl refl (relock-looked t (t .left) false inside x))
+          (right-of-ends
+          12
+          (relocked-other ws (t .left) false inside (t .right) (λ (e : t .right ≡ t .left). omega (arith, x .leftward .below, x .above)))
+          ends))
+          (λ u a s. apart-less back (λ (r : Reserves (toPhase 12 t)). absurd (omega (arith, r .to-10))) a)
+          (λ q n o. kept q n o)
+          (λ e. absurd (false≢true e))
+          (λ q (u : Unfinished t q). absurd (omega (arith, u .to-10)));
+        same-key = refl;
+        ends = λ e. absurd (omega arith);
+        effect = keeps (weight-late (toPhase 12 t) (omega arith) (omega arith) ∙ sym (weight-late t (omega arith) (omega arith)))
+      }
+    where
+      inside : t .left < length ws
+      inside = in-table low inv i lt (omega (arith, x .leftward .below, x .above, x .inside))
+      back : (q : ℕ) → Owns (toPhase 12 t) q → Owns t q
+      back q (by-left a b e) = absurd (omega arith)
+      back q (by-right a b e) = by-right (omega arith) (omega arith) e
+      kept : (q : ℕ) → q ≢ t .left → Owns t q → Owns (toPhase 12 t) q
+      kept q n (by-left a b e) = absurd (n e)
+      kept q n (by-right a b e) = by-right (omega arith) (omega arith) e
+
+  answer-of : (n : ℕ) → RightEnd sh ws shown t → Answered sh shown (toPhase n t)
+  answer-of n (right-found a h x) = says-shown (inl a) h
+  answer-of n (right-full a x) = says-full a
+  answer-of n (right-waiting a h x) = says-shown (inr a) h
+  answer-of n (right-filled a h x) = says-shown (inr a) h
+
+  pub walk-free-right :
+    t .phase ≡ 12 → t .key < keys sh → Looked sh ws t → RightEnd sh ws shown t → Walked sh ws ts laid shown i
+  unfolding phase.freeRight relocked
+  walk-free-right p k x end-right =
+      record {
+        next = toPhase 13 t;
+        words = relocked ws (t .right) false inside;
+        laid-after = laid;
+        shown-after = shown;
+        step = step-by low inv i lt 12 (omega arith) (omega arith) p refl;
+        shows =
+          relock
+          i
+          (toPhase 13 t)
+          low
+          inv
+          (t .right)
+          false
+          inside
+          (λ u a s o. a .owners (t .right) (by-right (omega arith) (omega arith) refl) o)
+          (at-rest (inr refl))
+          (λ u a s. apart-less back (λ (r : Reserves (toPhase 13 t)). absurd (omega (arith, r .to-10))) a)
+          (λ q n o. absurd (gone q n o))
+          (λ e. absurd (false≢true e))
+          (λ q (u : Unfinished t q). absurd (omega (arith, u .to-10)));
+        same-key = refl;
+        ends = λ e. answer-of 13 end-right;
+        effect = keeps (weight-late (toPhase 13 t) (omega arith) (omega arith) ∙ sym (weight-late t (omega arith) (omega arith)))
+      }
+    where
+      inside : t .right < length ws
+      inside = in-table low inv i lt (x .inside)
+      back : (q : ℕ) → Owns (toPhase 13 t) q → Owns t q
+      back q (by-left a b e) = absurd (omega arith)
+      back q (by-right a b e) = absurd (omega arith)
+      gone : (q : ℕ) → q ≢ t .right → Owns t q → ⊥
+      gone q n (by-left a b e) = omega arith
+      gone q n (by-right a b e) = n e
