@@ -299,12 +299,12 @@ module _ {sh : Shape} {ws : List Word} {e : Entry} (a : Addable sh ws e) where
         r
         (ap locked (sym (cut-closed ws l r ordered (apart .inside))) ∙ a .free)
 
-    begins-from : (side : Side) → enlargedFrom ws (e .home) (end side l r) ≡ from side l
+    pub begins-from : (side : Side) → enlargedFrom ws (e .home) (end side l r) ≡ from side l
     unfolding enlargedFrom
     begins-from gaps.left = omega arith
     begins-from gaps.right = omega (arith, ordered)
 
-    add-end :
+    pub add-end :
         (side : Side) →
         addAt ws e (end side l r)
         ≡ finish

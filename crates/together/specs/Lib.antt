@@ -11,3 +11,4 @@ pub mod Around
 pub mod Walk
 pub mod Reading
 pub mod Finishing
+pub mod Commit

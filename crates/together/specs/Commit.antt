@@ -1,0 +1,375 @@
+-- The two steps that put a key: the fill of an empty home (phase 1) and the fill at the hand (phase 8). Each is put into the table laid.
+-- Assumes nothing.
+use Prim.Native.Nat.{ℕ, suc, _+_, _-_, _≤_, _<_}
+use mathlib.Core.Path.{_≡_, refl, sym, ap, ap₂, _∙_, subst, subst₂}
+use mathlib.Core.Logic.{_⊎_, _≢_, inl, inr}
+use mathlib.Core.Bool.{Bool, true, false, cond, _||_, true≢false, false≢true}
+use mathlib.Core.List.{List, [], map}
+use native.Mathlib.Omega.{arith}
+use lib.ListN.{length, getD, set, length-set}
+use lib.Dec.{eqb}
+use borrow.Author.Tests.{eqb-true, eqb-false}
+use Rattle.rules.specs.declared.Shape.{Shape}
+use Rattle.rules.specs.declared.Task.{Task}
+use Rattle.rules.specs.Lists.{any}
+use Rattle.rules.specs.Word.{Word, zeroWord, lockWord, withRemainder, isVoid, isLock, isZero}
+use Rattle.rules.specs.Shape.{homes, remainders, keys, places, rightGuard}
+use Rattle.rules.specs.Entry.{Entry, split, sameEntry}
+use Rattle.rules.specs.Table.{at, occupied, leftGap, rightGap, locked, entriesBetween, clusterEntries}
+use Rattle.rules.specs.Room.{Room, place, full, roomFor}
+use Rattle.rules.specs.Lay.{holds, insert}
+use Rattle.rules.specs.Put.{addAt, enlargedFrom, Outcome, keeps, writes, putIn, wordsAfter}
+use Rattle.rules.specs.Record.{homePlace, toPhase, withAnswer}
+use Rattle.rules.specs.Give.{taskAt}
+use Rattle.rules.specs.Phase as phase
+use Rattle.rules.specs.Phase.{to, aloneWord, smaller, markOf, movesOn}
+use Rattle.words.specs.Split.{split-in-shape}
+use Rattle.theory.specs.Run.{unlock}
+use Rattle.theory.specs.Dealt.{or-left, or-right}
+use Rattle.theory.specs.Insert.{same-eq, same-refl, holds-insert}
+use Rattle.theory.specs.Gaps as gaps
+use Rattle.theory.specs.Gaps.{Side, HomePlace, other, room-left, chosen-only}
+use Rattle.theory.specs.Cut.{end, from, upTo}
+use Rattle.theory.specs.Places.{occupied-at}
+use Rattle.theory.specs.Motion.{fillAt, finish}
+use Rattle.theory.specs.Region.{fillAt-occupied, fillAt-locks}
+use Rattle.theory.specs.Pairs.{unlocked-same}
+use Rattle.theory.specs.Finding.{Surroundings, surroundings, around-free}
+use Rattle.theory.specs.Adding.{Added}
+use Rattle.theory.specs.Putting.{Puts, found, inserted, overflow, put-table}
+use Rattle.theory.specs.Moving.{Addable, add-end, begins-from, room-alone, add-alone}
+use Rattle.theory.specs.Building.{State, after-put, added-state, place≢full}
+use Rattle.together.specs.Frames.{Within, at-set, at-other, at-unlocked, finish-before, finish-after, locks-at, occupied-same}
+use Rattle.together.specs.Invariant.{Occupied, Looked, Fills, Ready, Moving, Owns, by-left, by-right, Reserves, Apart, Unfinished}
+use Rattle.together.specs.Invariant.{Inv, Stage, at-rest, has-read, moving, marking}
+use Rattle.together.specs.Stable.{Frame, LetsAlone, stage-stable, finish-same, from-ge, upTo-le, fills-as}
+use Rattle.together.specs.Update.{Steps, same-or-not}
+use Rattle.together.specs.Facts.{in-order, words-size, reserved-laid}
+use Rattle.together.specs.Fitting.{Named, ready-named}
+use Rattle.together.specs.Quiet.{owned-locked, apart-less}
+use Rattle.together.specs.Stretch.{own-end, stretch-alone, within?}
+use Rattle.together.specs.Around.{Around, around}
+use Rattle.together.specs.Walk as walk
+use Rattle.together.specs.Walk.{Walked, commits, weight-low, step-by, in-table, looked-as, says-shown}
+
+-- ---- the put into the table laid
+pub record Puts-at (sh : Shape) (laid : List Word) (shown : List Entry) (e : Entry) (p : ℕ) : Type 0 where
+  pub is : after-put sh laid e ≡ addAt laid e p
+  pub state : State sh (addAt laid e p) (insert e shown)
+  pub places-after : occupied (addAt laid e p) ≡ set (occupied laid) p true
+
+place-same : {p q : ℕ} → place p ≡ place q → p ≡ q
+place-same e = cc
+
+pub puts-at :
+  {sh : Shape} {laid : List Word} {shown : List Entry} (e : Entry) (p : ℕ) →
+  remainders sh ≤ 4096 →
+  HomePlace sh (e .home) →
+  e .remainder < remainders sh →
+  State sh laid shown →
+  holds e shown ≡ false → roomFor sh (occupied laid) (e .home) ≡ place p → Puts-at sh laid shown e p
+puts-at {sh} {laid} {shown} e p low home small s new room =
+    go (putIn sh laid e) refl (put-table sh e low (s .size) home small (s .table) (s .free))
+  where
+    go : (o : Outcome) → putIn sh laid e ≡ o → Puts sh laid shown e o → Puts-at sh laid shown e p
+    go o is (found h) = absurd (true≢false (sym h ∙ new))
+    go o is (overflow h full-room) = absurd (place≢full (sym room ∙ full-room))
+    go o is (inserted q h room′ added) =
+        let here : q ≡ p = place-same (sym room′ ∙ room) in
+        subst
+        (Puts-at sh laid shown e)
+        here
+        (record {
+          is = ap (wordsAfter laid) is;
+          state = added-state s added;
+          places-after = added .places
+        })
+
+-- a plain table has no lock
+pub plain-unlocked : {sh : Shape} {laid : List Word} {shown : List Entry} (q : ℕ) → State sh laid shown → unlock (at laid q) ≡ at laid q
+plain-unlocked {laid = laid} q s = sym (at-unlocked laid q) ∙ ap (λ (vs : List Word). at vs q) (unlocked-same laid (s .free))
+
+-- another key's entry is as much held as before
+pub held-other : (e f : Entry) (es : List Entry) → (e .home ≢ f .home) → holds f (insert e es) ≡ holds f es
+held-other e f es apart =
+    holds-insert f e es ∙ ap (λ (b : Bool). b || holds f es) (go (sameEntry f e) refl)
+  where
+    go : (b : Bool) → sameEntry f e ≡ b → sameEntry f e ≡ false
+    go true h = absurd (apart (ap (λ (x : Entry). x .home) (sym (same-eq f e h))))
+    go false h = h
+
+pub held-now : (e : Entry) (es : List Entry) → holds e (insert e es) ≡ true
+held-now e es = holds-insert e e es ∙ or-left _ _ (same-refl e)
+
+pub held-still : (e x : Entry) (es : List Entry) → holds x es ≡ true → holds x (insert e es) ≡ true
+held-still e x es h = holds-insert x e es ∙ or-right (sameEntry x e) (holds x es) h
+
+guard-beyond : (sh : Shape) (p : ℕ) → p ≤ homes sh → p ≡ rightGuard sh → ⊥
+unfolding rightGuard
+guard-beyond sh p le e = omega arith
+
+-- ---- phase 8
+module _ {sh : Shape} {ws : List Word} {ts : List Task} {laid : List Word} {shown : List Entry}
+  (low : remainders sh ≤ 4096) (inv : Inv sh ws ts laid shown) (i : ℕ) (lt : i < length ts)
+  (p : taskAt ts i .phase ≡ 8) (k : taskAt ts i .key < keys sh) (x : Looked sh ws (taskAt ts i))
+  (left-held : at ws (taskAt ts i .left) ≡ lockWord) (right-held : at ws (taskAt ts i .right) ≡ lockWord)
+  (y : Ready sh laid shown (taskAt ts i))
+  where
+  abbrev t : Task
+  t = taskAt ts i
+
+  abbrev e : Entry
+  e = split sh (t .key)
+
+  abbrev es : List Entry
+  es = entriesBetween laid (t .left) (t .right)
+
+  see : Around sh ws laid shown t
+  see = around low inv i lt (omega arith) (omega arith) k x left-held right-held
+
+  small-key : e .remainder < remainders sh
+  small-key = split-in-shape sh (t .key) k .remainder-low
+
+  home-taken : at laid (e .home) .occupied ≡ true
+  unfolding homePlace
+  home-taken =
+      occupied-same laid ws (e .home) (sym (inv .places))
+      ∙ x .taken (e .home) (omega arith) (omega (arith, x .above))
+
+  -- the place that the rule names is the hand
+  room-is : roomFor sh (occupied laid) (e .home) ≡ place (t .hand)
+  room-is = go (y .side) (y .fills) (y .room) ∙ ap place (sym (y .hand))
+    where
+      go :
+        (side : Side) →
+        Fills side t →
+        HomePlace sh (end side (t .left) (t .right)) →
+        roomFor sh (occupied laid) (e .home) ≡ place (end side (t .left) (t .right))
+      go gaps.left away room =
+          room-left sh (occupied laid) (e .home)
+          ∙ chosen-only (gaps.first (occupied-at laid (e .home) ∙ home-taken) (λ z. away (sym (see .left) ∙ z)))
+          ∙ ap place (see .left)
+      go gaps.right at-guard room =
+          room-left sh (occupied laid) (e .home)
+          ∙ chosen-only
+          (gaps.second (occupied-at laid (e .home) ∙ home-taken) (see .left ∙ at-guard) (λ z. not-guard (sym (see .right) ∙ z)))
+          ∙ ap place (see .right)
+        where
+          not-guard : t .right ≡ rightGuard sh → ⊥
+          not-guard z = guard-beyond sh (t .right) (room .last) z
+
+  put-in : Puts-at sh laid shown e (t .hand)
+  put-in = puts-at e (t .hand) low (see .home) small-key (inv .plain) (y .new) room-is
+
+  abbrev laid′ : List Word
+  laid′ = addAt laid e (t .hand)
+
+  look : Surroundings sh laid shown e
+  look = surroundings sh e low (inv .plain .size) (see .home) small-key (inv .plain .table)
+
+  addable : Addable sh laid e
+  addable =
+      record {
+        low = low;
+        remainder = small-key;
+        home = see .home;
+        size = inv .plain .size;
+        sound = look .sound;
+        free = around-free laid (e .home) (inv .plain .free);
+        new = look .same ∙ y .new
+      }
+
+  -- the table laid after the put is the fill and the moves on the table laid before
+  laid-moves : laid′ ≡ finish (fillAt (e .remainder) laid (t .hand)) (t .hand) (t .goal) (t .mark) (e .home)
+  unfolding clusterEntries
+  laid-moves =
+      ap (addAt laid e) (y .hand ∙ sym gap-is)
+      ∙ add-end addable home-taken (y .side)
+      ∙ (λ j. finish (fillAt (e .remainder) laid (hand-is j)) (hand-is j) (goal-is j) (mark-is j) (e .home))
+    where
+      gap-is : end (y .side) (leftGap (occupied laid) (e .home)) (rightGap (occupied laid) (e .home)) ≡ end (y .side) (t .left) (t .right)
+      gap-is = ap₂ (end (y .side)) (see .left) (see .right)
+      hand-is : end (y .side) (leftGap (occupied laid) (e .home)) (rightGap (occupied laid) (e .home)) ≡ t .hand
+      hand-is = gap-is ∙ sym (y .hand)
+      goal-is :
+        enlargedFrom laid (e .home) (end (y .side) (leftGap (occupied laid) (e .home)) (rightGap (occupied laid) (e .home)))
+        + smaller e (entriesBetween laid (leftGap (occupied laid) (e .home)) (rightGap (occupied laid) (e .home)))
+        ≡ t .goal
+      goal-is =
+          ap (λ (n : ℕ). n + smaller e (entriesBetween laid (leftGap (occupied laid) (e .home)) (rightGap (occupied laid) (e .home)))) (begins-from addable home-taken (y .side))
+          ∙ ap₂ (λ (l r : ℕ). from (y .side) l + smaller e (entriesBetween laid l r)) (see .left) (see .right)
+          ∙ sym (y .goal)
+      mark-is : markOf e (entriesBetween laid (leftGap (occupied laid) (e .home)) (rightGap (occupied laid) (e .home))) ≡ t .mark
+      mark-is = ap₂ (λ (l r : ℕ). markOf e (entriesBetween laid l r)) (see .left) (see .right) ∙ sym (y .mark)
+
+  abbrev filled : List Word
+  filled = fillAt (e .remainder) ws (t .hand)
+
+  named : Named (y .side) t
+  named = ready-named (inv .plain .size) x y
+
+  hand-in : Within (t .left) (t .right) (t .hand)
+  hand-in =
+      (omega (arith, named .hand-low, from-ge (y .side) (t .left)),
+      omega (arith, named .hand-high, upTo-le (y .side) (t .right)))
+
+  goal-in : Within (t .left) (t .right) (t .goal)
+  goal-in =
+      (omega (arith, named .goal-low, from-ge (y .side) (t .left)),
+      omega (arith, named .goal-high, upTo-le (y .side) (t .right)))
+
+  home-in : Within (t .left) (t .right) (e .home)
+  unfolding homePlace
+  home-in = (omega (arith, x .leftward .below), omega (arith, x .above))
+
+  closes : t .mark ≡ 1 → t .left < t .goal
+  closes one = omega (arith, named .closes one, from-ge (y .side) (t .left))
+
+  ordered : t .left ≤ t .right
+  ordered = omega (arith, x .leftward .below, x .above)
+
+  right-inside : t .right < length ws
+  right-inside = in-table low inv i lt (x .inside)
+
+  hand-inside : t .hand < length ws
+  hand-inside = omega (arith, hand-in .1, right-inside)
+
+  laid-long : length laid ≡ length ws
+  laid-long = inv .plain .size ∙ sym (words-size low inv)
+
+  -- the hand stands on an end, which was exactly the lock bit
+  hand-held : at ws (t .hand) ≡ lockWord
+  hand-held = ap (at ws) (y .hand) ∙ go (y .side)
+    where
+      go : (side : Side) → at ws (end side (t .left) (t .right)) ≡ lockWord
+      go gaps.left = left-held
+      go gaps.right = right-held
+
+  other-held : at ws (end (other (y .side)) (t .left) (t .right)) ≡ lockWord
+  other-held = go (y .side)
+    where
+      go : (side : Side) → at ws (end (other side) (t .left) (t .right)) ≡ lockWord
+      go gaps.left = right-held
+      go gaps.right = left-held
+
+  filled-here : at filled (t .hand) ≡ withRemainder (e .remainder) (at ws (t .hand))
+  unfolding fillAt
+  filled-here = at-set ws (t .hand) (withRemainder (e .remainder) (at ws (t .hand))) hand-inside
+
+  filled-other : (q : ℕ) → q ≢ t .hand → at filled q ≡ at ws q
+  unfolding fillAt
+  filled-other q n = at-other ws (t .hand) q (withRemainder (e .remainder) (at ws (t .hand))) n
+
+  filled-locks : (q : ℕ) → at filled q .lock ≡ at ws q .lock
+  filled-locks q = locks-at filled ws q (fillAt-locks (e .remainder) ws (t .hand))
+
+  filled-size : length filled ≡ places sh
+  unfolding fillAt
+  filled-size = length-set ws (t .hand) (withRemainder (e .remainder) (at ws (t .hand))) ∙ words-size low inv
+
+  filled-grows : (q : ℕ) → Occupied ws q → Occupied filled q
+  filled-grows q taken = go (same-or-not (t .hand) q)
+    where
+      go : (q ≡ t .hand) ⊎ (q ≢ t .hand) → Occupied filled q
+      go (inl same) = ap (λ (r : ℕ). at filled r .occupied) same ∙ ap (λ (w : Word). w .occupied) filled-here
+      go (inr n) = ap (λ (w : Word). w .occupied) (filled-other q n) ∙ taken
+
+  filled-small : (q : ℕ) → at filled q .remainder < 4096
+  filled-small q = go (same-or-not (t .hand) q)
+    where
+      go : (q ≡ t .hand) ⊎ (q ≢ t .hand) → at filled q .remainder < 4096
+      go (inl same) =
+          subst
+          (λ (n : ℕ). n < 4096)
+          (sym (ap (λ (r : ℕ). at filled r .remainder) same ∙ ap (λ (w : Word). w .remainder) filled-here))
+          (omega (arith, small-key))
+      go (inr n) = subst (λ (m : ℕ). m < 4096) (sym (ap (λ (w : Word). w .remainder) (filled-other q n))) (inv .small q)
+
+  -- the same fill on the table laid
+  abbrev laid-filled : List Word
+  laid-filled = fillAt (e .remainder) laid (t .hand)
+
+  fills-alike : (q : ℕ) → Within (t .left) (t .right) q → unlock (at filled q) ≡ unlock (at laid-filled q)
+  unfolding fillAt
+  fills-alike q near = go (same-or-not (t .hand) q)
+    where
+      alike : (r : ℕ) → Within (t .left) (t .right) r → unlock (at ws r) ≡ unlock (at laid r)
+      alike r w = reserved-laid low inv i lt (omega arith) (omega arith) r w ∙ sym (plain-unlocked r (inv .plain))
+      go : (q ≡ t .hand) ⊎ (q ≢ t .hand) → unlock (at filled q) ≡ unlock (at laid-filled q)
+      go (inl same) =
+          ap (λ (r : ℕ). unlock (at filled r)) same
+          ∙ ap unlock filled-here
+          ∙ ap (withRemainder (e .remainder)) (alike (t .hand) hand-in)
+          ∙ ap unlock (sym (at-set laid (t .hand) (withRemainder (e .remainder) (at laid (t .hand))) (omega (arith, laid-long, hand-inside))))
+          ∙ ap (λ (r : ℕ). unlock (at laid-filled r)) (sym same)
+      go (inr n) =
+          ap unlock (filled-other q n)
+          ∙ alike q near
+          ∙ ap unlock (sym (at-other laid (t .hand) q (withRemainder (e .remainder) (at laid (t .hand))) n))
+
+  laid-filled-size : length laid-filled ≡ places sh
+  unfolding fillAt
+  laid-filled-size = length-set laid (t .hand) (withRemainder (e .remainder) (at laid (t .hand))) ∙ inv .plain .size
+
+  looked-filled : Looked sh filled t
+  looked-filled =
+      record {
+        leftward =
+          record { below = x .leftward .below; taken = λ q a b. filled-grows q (x .leftward .taken q a b) };
+        above = x .above;
+        inside = x .inside;
+        taken = λ q a b. filled-grows q (x .taken q a b)
+      }
+
+  -- finishing what is left gives the table laid
+  will-finish :
+    (q : ℕ) →
+    Within (t .left) (t .right) q →
+    unlock (at (finish filled (t .hand) (t .goal) (t .mark) (homePlace sh t)) q) ≡ at laid′ q
+  unfolding homePlace
+  will-finish q near =
+      finish-same
+      sh
+      filled
+      laid-filled
+      t
+      (y .side)
+      filled-size
+      laid-filled-size
+      looked-filled
+      (named .hand-low)
+      (named .hand-high)
+      (named .goal-low)
+      (named .goal-high)
+      (named .closes)
+      fills-alike
+      q
+      near
+      ∙ ap (λ (vs : List Word). unlock (at vs q)) (sym laid-moves)
+      ∙ plain-unlocked q (put-in .state)
+
+  -- outside the stretch the table laid is as it was
+  laid-outside : (q : ℕ) → (Within (t .left) (t .right) q → ⊥) → at laid′ q ≡ at laid q
+  unfolding fillAt
+  laid-outside q far =
+      ap (λ (vs : List Word). at vs q) laid-moves ∙ go (in-order (t .left) q) (in-order q (t .right)) ∙ same-there
+    where
+      same-there : at laid-filled q ≡ at laid q
+      same-there =
+          at-other
+          laid
+          (t .hand)
+          q
+          (withRemainder (e .remainder) (at laid (t .hand)))
+          (λ (same : q ≡ t .hand). far (subst (Within (t .left) (t .right)) (sym same) hand-in))
+      long : t .right < length laid-filled
+      long = omega (arith, laid-filled-size, words-size low inv, right-inside)
+      go :
+        (t .left ≤ q) ⊎ (q < t .left) →
+        (q ≤ t .right) ⊎ (t .right < q) →
+        at (finish laid-filled (t .hand) (t .goal) (t .mark) (e .home)) q ≡ at laid-filled q
+      go (inl a) (inl b) = absurd (far (a, b))
+      go (inr a) b =
+          finish-before laid-filled (t .left) (t .right) ordered long (t .hand) (t .goal) (t .mark) (e .home) hand-in goal-in home-in closes q a
+      go (inl a) (inr b) =
+          finish-after laid-filled (t .left) (t .right) ordered long (t .hand) (t .goal) (t .mark) (e .home) hand-in goal-in home-in closes q b
