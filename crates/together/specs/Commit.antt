@@ -108,6 +108,17 @@ guard-beyond : (sh : Shape) (p : ℕ) → p ≤ homes sh → p ≡ rightGuard sh
 unfolding rightGuard
 guard-beyond sh p le e = omega arith
 
+-- the two ends are apart
+other-end : (side : Side) (l r : ℕ) → l < r → end (other side) l r ≡ end side l r → ⊥
+other-end gaps.left l r lt e = omega arith
+other-end gaps.right l r lt e = omega arith
+
+-- a task in phase 8 has looked both ways
+reserved-looked :
+  {sh : Shape} {ws laid : List Word} {shown : List Entry} (u : Task) →
+  u .phase ≡ 8 → Stage sh ws laid shown u → Looked sh ws u
+reserved-looked u at-8 s = walk.free-end (omega arith) (omega arith) s .1
+
 -- ---- phase 8
 module _ {sh : Shape} {ws : List Word} {ts : List Task} {laid : List Word} {shown : List Entry}
   (low : remainders sh ≤ 4096) (inv : Inv sh ws ts laid shown) (i : ℕ) (lt : i < length ts)
@@ -373,3 +384,140 @@ module _ {sh : Shape} {ws : List Word} {ts : List Task} {laid : List Word} {show
           finish-before laid-filled (t .left) (t .right) ordered long (t .hand) (t .goal) (t .mark) (e .home) hand-in goal-in home-in closes q a
       go (inl a) (inr b) =
           finish-after laid-filled (t .left) (t .right) ordered long (t .hand) (t .goal) (t .mark) (e .home) hand-in goal-in home-in closes q b
+
+  filling : (n : ℕ) → Moving sh filled laid′ (insert e shown) (toPhase n t)
+  unfolding homePlace
+  filling n =
+      record {
+        side = y .side;
+        fills = fills-as (y .side) t (toPhase n t) refl (y .fills);
+        room = y .room;
+        filled =
+          record {
+            taken =
+              ap (λ (r : ℕ). at filled r .occupied) (sym (y .hand)) ∙ ap (λ (w : Word). w .occupied) filled-here;
+            kept = filled-locks (end (y .side) (t .left) (t .right)) ∙ ap (λ (r : ℕ). at ws r .lock) (sym (y .hand)) ∙ ap (λ (w : Word). w .lock) hand-held
+          };
+        waiting =
+          filled-other
+          (end (other (y .side)) (t .left) (t .right))
+          (λ same. other-end (y .side) (t .left) (t .right) (omega (arith, x .leftward .below, x .above)) (same ∙ y .hand))
+          ∙ other-held;
+        hand-low = named .hand-low;
+        hand-high = named .hand-high;
+        goal-low = named .goal-low;
+        goal-high = named .goal-high;
+        mark = named .marks;
+        closes = named .closes;
+        finished = will-finish;
+        put = held-now e shown
+      }
+
+  fill-frame : Frame sh ws laid shown filled laid′ (insert e shown) (Within (t .left) (t .right))
+  fill-frame =
+      record {
+        size = words-size low inv;
+        size′ = filled-size;
+        laid-size = inv .plain .size;
+        laid-size′ = put-in .state .size;
+        words = λ q far. ap unlock (filled-other q (λ (same : q ≡ t .hand). far (subst (Within (t .left) (t .right)) (sym same) hand-in)));
+        grows = filled-grows;
+        laid-words = laid-outside;
+        keeps = λ f h. held-still e f shown h
+      }
+
+  -- another task that has read has another key: its home lies in its own stretch
+  still-new :
+    (u : Task) → Apart t u → Stage sh ws laid shown u → u .phase ≡ 8 → holds (split sh (u .key)) (insert e shown) ≡ holds (split sh (u .key)) shown
+  unfolding homePlace
+  still-new u a s at-8 =
+      held-other e (split sh (u .key)) shown
+      (λ (same : e .home ≡ split sh (u .key) .home).
+      let z = reserved-looked u at-8 s in
+      a .stretches
+      (record { from-7 = omega arith; to-10 = omega arith })
+      (record { from-7 = omega arith; to-10 = omega arith })
+      (e .home)
+      home-in
+      (omega (arith, z .leftward .below), omega (arith, z .above)))
+
+  fill-to :
+    (n : ℕ) →
+    9 ≤ n →
+    n ≤ 10 →
+    movesOn t ≡ toPhase n t → Stage sh filled laid′ (insert e shown) (toPhase n t) → Walked sh ws ts laid shown i
+  unfolding phase.fillHand fillAt isLock isVoid
+  fill-to n a b phase-is stage =
+      record {
+        next = toPhase n t;
+        words = filled;
+        laid-after = after-put sh laid e;
+        shown-after = insert e shown;
+        step =
+          step-by low inv i lt 8 (omega arith) (omega arith) p
+          (rw (ap isLock hand-held) (ap (λ (u : Task). to u filled) phase-is));
+        shows =
+          subst
+          (λ (vs : List Word). Steps sh ws ts laid shown i (toPhase n t) filled vs (insert e shown))
+          (sym (put-in .is))
+          (record {
+            plain = put-in .state;
+            places =
+              fillAt-occupied (e .remainder) ws (t .hand)
+              ∙ ap (λ (os : List Bool). set os (t .hand) true) (inv .places)
+              ∙ sym (put-in .places-after);
+            small = filled-small;
+            stage = stage;
+            others = λ u c s.
+              stage-stable
+              fill-frame
+              u
+              (stretch-alone filled t u (omega arith) (omega arith) x filled-locks c)
+              (still-new u c s)
+              s;
+            apart = λ u c s.
+              apart-less back (λ r. (record { from-7 = omega arith; to-10 = omega arith }, refl, refl)) c;
+            owner = λ q is-locked. inr (sym (filled-locks q) ∙ is-locked, there q);
+            settled = λ q own others. settle q own others
+          });
+        same-key = refl;
+        ends = λ c. absurd (omega arith);
+        effect = commits (y .new) (weight-low t (omega arith)) (walk.weight-moving (toPhase n t) a b)
+      }
+    where
+      there : (q : ℕ) → Owns t q → Owns (toPhase n t) q
+      there q (by-left c d f) = by-left (omega arith) (omega arith) f
+      there q (by-right c d f) = by-right (omega arith) (omega arith) f
+      back : (q : ℕ) → Owns (toPhase n t) q → Owns t q
+      back q (by-left c d f) = by-left (omega arith) (omega arith) f
+      back q (by-right c d f) = by-right (omega arith) (omega arith) f
+      settle :
+        (q : ℕ) →
+        (Unfinished (toPhase n t) q → ⊥) →
+        ((j : ℕ) → j < length ts → j ≢ i → Unfinished (taskAt ts j) q → ⊥) → unlock (at filled q) ≡ at laid′ q
+      settle q own others =
+          fill-frame .words q far
+          ∙ inv .settled q (λ j l u. none j l u (same-or-not i j))
+          ∙ sym (laid-outside q far)
+        where
+          far : Within (t .left) (t .right) q → ⊥
+          far w = own (record { from-9 = a; to-10 = b; inside = w })
+          none : (j : ℕ) → j < length ts → Unfinished (taskAt ts j) q → (j ≡ i) ⊎ (j ≢ i) → ⊥
+          none j l u (inl same) =
+              let v = subst (λ (m : ℕ). Unfinished (taskAt ts m) q) same u in
+              omega (arith, v .from-9)
+          none j l u (inr m) = others j l m u
+
+  pub walk-fill : Walked sh ws ts laid shown i
+  unfolding movesOn
+  walk-fill = go (eqb (t .hand) (t .goal)) refl
+    where
+      go : (b : Bool) → eqb (t .hand) (t .goal) ≡ b → Walked sh ws ts laid shown i
+      go true same =
+          fill-to 10 (omega arith) (omega arith)
+          (ap (λ (b : Bool). toPhase (cond b 10 9) t) same)
+          (marking refl k (looked-as t (toPhase 10 t) refl refl refl looked-filled) (eqb-true (t .hand) (t .goal) same) (filling 10))
+      go false apart =
+          fill-to 9 (omega arith) (omega arith)
+          (ap (λ (b : Bool). toPhase (cond b 10 9) t) apart)
+          (moving refl k (looked-as t (toPhase 9 t) refl refl refl looked-filled) (eqb-false (t .hand) (t .goal) apart) (filling 9))

@@ -123,10 +123,10 @@ zero-is w z =
     bits = and-right (eqb (w .remainder) 0) _ void
 
 -- an unfilled end of a task that reserves its stretch
-record FreeEnd (ws : List Word) (t : Task) : Type 0 where
-  place : ℕ
-  which : (place ≡ t .left) ⊎ (place ≡ t .right)
-  free : at ws place .occupied ≡ false
+pub record FreeEnd (ws : List Word) (t : Task) : Type 0 where
+  pub place : ℕ
+  pub which : (place ≡ t .left) ⊎ (place ≡ t .right)
+  pub free : at ws place .occupied ≡ false
 
 moving-end : {sh : Shape} {ws laid : List Word} {shown : List Entry} {t : Task} → Moving sh ws laid shown t → FreeEnd ws t
 moving-end {ws = ws} {t = t} m = go (m .side) (m .waiting)
@@ -135,7 +135,7 @@ moving-end {ws = ws} {t = t} m = go (m .side) (m .waiting)
     go gaps.left e = record { place = t .right; which = inr refl; free = ap (λ (w : Word). w .occupied) e }
     go gaps.right e = record { place = t .left; which = inl refl; free = ap (λ (w : Word). w .occupied) e }
 
-free-end :
+pub free-end :
   {sh : Shape} {ws laid : List Word} {shown : List Entry} {t : Task} →
   7 ≤ t .phase → t .phase ≤ 10 → Stage sh ws laid shown t → FreeEnd ws t × Looked sh ws t
 free-end a b (at-rest (inl e)) = absurd (omega arith)
