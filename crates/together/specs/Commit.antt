@@ -1,12 +1,13 @@
 -- The two steps that put a key: the fill of an empty home (phase 1) and the fill at the hand (phase 8). Each is put into the table laid.
 -- Assumes nothing.
-use Prim.Native.Nat.{ℕ, suc, _+_, _-_, _≤_, _<_}
+use Prim.Native.Nat.{ℕ, zero, suc, _+_, _-_, _≤_, _<_}
 use mathlib.Core.Path.{_≡_, refl, sym, ap, ap₂, _∙_, subst, subst₂}
 use mathlib.Core.Logic.{_⊎_, _≢_, inl, inr}
 use mathlib.Core.Bool.{Bool, true, false, cond, _||_, true≢false, false≢true}
-use mathlib.Core.List.{List, [], map}
+use mathlib.Core.List.{List, [], _∷_, map}
 use native.Mathlib.Omega.{arith}
-use lib.ListN.{length, getD, set, length-set}
+use native.Mathlib.Nat.{le-refl}
+use lib.ListN.{length, getD, take, set, length-set, length-take, drop-of-length-le}
 use lib.Dec.{eqb}
 use borrow.Author.Tests.{eqb-true, eqb-false}
 use Rattle.rules.specs.declared.Shape.{Shape}
@@ -15,20 +16,20 @@ use Rattle.rules.specs.Lists.{any}
 use Rattle.rules.specs.Word.{Word, zeroWord, lockWord, withRemainder, isVoid, isLock, isZero}
 use Rattle.rules.specs.Shape.{homes, remainders, keys, places, rightGuard}
 use Rattle.rules.specs.Entry.{Entry, split, sameEntry}
-use Rattle.rules.specs.Table.{at, occupied, leftGap, rightGap, locked, entriesBetween, clusterEntries}
+use Rattle.rules.specs.Table.{at, occupied, leftGap, rightGap, between, virginPlaces, deal, entriesBetween, clusterEntries}
 use Rattle.rules.specs.Room.{Room, place, full, roomFor}
 use Rattle.rules.specs.Lay.{holds, insert}
 use Rattle.rules.specs.Put.{addAt, enlargedFrom, Outcome, keeps, writes, putIn, wordsAfter}
-use Rattle.rules.specs.Record.{homePlace, toPhase, withAnswer}
+use Rattle.rules.specs.Record.{homePlace, toPhase, withLeft, withAnswer}
 use Rattle.rules.specs.Give.{taskAt}
 use Rattle.rules.specs.Phase as phase
-use Rattle.rules.specs.Phase.{to, aloneWord, smaller, markOf, movesOn}
+use Rattle.rules.specs.Phase.{to, unsound, aloneWord, smaller, markOf, movesOn}
 use Rattle.words.specs.Split.{split-in-shape}
 use Rattle.theory.specs.Run.{unlock}
 use Rattle.theory.specs.Dealt.{or-left, or-right}
 use Rattle.theory.specs.Insert.{same-eq, same-refl, holds-insert}
 use Rattle.theory.specs.Gaps as gaps
-use Rattle.theory.specs.Gaps.{Side, HomePlace, other, room-left, chosen-only}
+use Rattle.theory.specs.Gaps.{Side, HomePlace, other, leftGap-is, rightGap-is, gap-only, room-left, chosen-only}
 use Rattle.theory.specs.Cut.{end, from, upTo}
 use Rattle.theory.specs.Places.{occupied-at}
 use Rattle.theory.specs.Motion.{fillAt, finish}
@@ -36,7 +37,7 @@ use Rattle.theory.specs.Region.{fillAt-occupied, fillAt-locks}
 use Rattle.theory.specs.Pairs.{unlocked-same}
 use Rattle.theory.specs.Finding.{Surroundings, surroundings, around-free}
 use Rattle.theory.specs.Adding.{Added}
-use Rattle.theory.specs.Putting.{Puts, found, inserted, overflow, put-table}
+use Rattle.theory.specs.Putting.{Puts, found, inserted, overflow, put-table, table-guarded}
 use Rattle.theory.specs.Moving.{Addable, add-end, begins-from, room-alone, add-alone}
 use Rattle.theory.specs.Building.{State, after-put, added-state, place≢full}
 use Rattle.together.specs.Frames.{Within, at-set, at-other, at-unlocked, finish-before, finish-after, locks-at, occupied-same}
@@ -521,3 +522,235 @@ module _ {sh : Shape} {ws : List Word} {ts : List Task} {laid : List Word} {show
           fill-to 9 (omega arith) (omega arith)
           (ap (λ (b : Bool). toPhase (cond b 10 9) t) apart)
           (moving refl k (looked-as t (toPhase 9 t) refl refl refl looked-filled) (eqb-false (t .hand) (t .goal) apart) (filling 9))
+
+home-below : (sh : Shape) (h : ℕ) → h ≤ homes sh → h ≤ rightGuard sh
+unfolding rightGuard
+home-below sh h le = omega arith
+
+occupied-set : (ws : List Word) (p : ℕ) (w : Word) → occupied (set ws p w) ≡ set (occupied ws) p (w .occupied)
+unfolding occupied
+occupied-set [] p w = refl
+occupied-set (v ∷ ws) zero w = refl
+occupied-set (v ∷ ws) (suc p) w = ap (λ (os : List Bool). v .occupied ∷ os) (occupied-set ws p w)
+
+-- an unoccupied home has no cluster, and so no keys
+no-keys-there :
+  (sh : Shape) (laid : List Word) (e : Entry) {shown : List Entry} →
+  State sh laid shown → at laid (e .home) .occupied ≡ false → holds e (clusterEntries laid (e .home)) ≡ false
+unfolding holds any clusterEntries entriesBetween virginPlaces deal
+no-keys-there sh laid e s free =
+    ap₂ (λ (l r : ℕ). holds e (entriesBetween laid l r)) own-left own-right ∙ ap (λ (vs : List Word). holds e (deal (virginPlaces (suc (e .home)) vs) vs)) nothing
+  where
+    free-place : gaps.Free (occupied laid) (e .home)
+    free-place = occupied-at laid (e .home) ∙ free
+    own-left : leftGap (occupied laid) (e .home) ≡ e .home
+    own-left =
+        gap-only
+        gaps.left
+        (leftGap-is (occupied laid) (e .home) (table-guarded sh (s .size) (s .table) .left))
+        (record { side = le-refl _; free = free-place; run = λ q a b n. absurd (n (omega arith)) })
+    own-right : rightGap (occupied laid) (e .home) ≡ e .home
+    own-right =
+        gap-only
+        gaps.right
+        (rightGap-is (occupied laid) (e .home))
+        (record { side = le-refl _; free = free-place; run = λ q a b n. absurd (n (omega arith)) })
+    nothing : between laid (e .home) (e .home) ≡ []
+    nothing =
+        drop-of-length-le
+        (take (e .home) laid)
+        {i = suc (e .home)}
+        (omega (arith, length-take (e .home) laid))
+
+-- ---- phase 1, on an empty home
+module _ {sh : Shape} {ws : List Word} {ts : List Task} {laid : List Word} {shown : List Entry}
+  (low : remainders sh ≤ 4096) (inv : Inv sh ws ts laid shown) (i : ℕ) (lt : i < length ts)
+  (p : taskAt ts i .phase ≡ 1) (k : taskAt ts i .key < keys sh)
+  (empty : at ws (split sh (taskAt ts i .key) .home) ≡ zeroWord)
+  where
+  abbrev t₁ : Task
+  t₁ = taskAt ts i
+
+  abbrev e₁ : Entry
+  e₁ = split sh (t₁ .key)
+
+  home₁ : HomePlace sh (e₁ .home)
+  home₁ = let s = split-in-shape sh (t₁ .key) k in record { first = s .home-low; last = s .home-high }
+
+  small₁ : e₁ .remainder < remainders sh
+  small₁ = split-in-shape sh (t₁ .key) k .remainder-low
+
+  laid-empty : at laid (e₁ .home) .occupied ≡ false
+  laid-empty = occupied-same laid ws (e₁ .home) (sym (inv .places)) ∙ ap (λ (w : Word). w .occupied) empty
+
+  look₁ : Surroundings sh laid shown e₁
+  look₁ = surroundings sh e₁ low (inv .plain .size) home₁ small₁ (inv .plain .table)
+
+  -- nobody's key has an unoccupied home
+  new₁ : holds e₁ shown ≡ false
+  new₁ = sym (look₁ .same) ∙ no-keys-there sh laid e₁ (inv .plain) laid-empty
+
+  addable₁ : Addable sh laid e₁
+  addable₁ =
+      record {
+        low = low;
+        remainder = small₁;
+        home = home₁;
+        size = inv .plain .size;
+        sound = look₁ .sound;
+        free = around-free laid (e₁ .home) (inv .plain .free);
+        new = look₁ .same ∙ new₁
+      }
+
+  put₁ : Puts-at sh laid shown e₁ (e₁ .home)
+  put₁ = puts-at e₁ (e₁ .home) low home₁ small₁ (inv .plain) new₁ (room-alone addable₁ laid-empty)
+
+  abbrev alone : Word
+  alone = aloneWord (e₁ .remainder)
+
+  laid-is : addAt laid e₁ (e₁ .home) ≡ set laid (e₁ .home) alone
+  laid-is = add-alone addable₁ laid-empty
+
+  inside₁ : e₁ .home < length ws
+  inside₁ = in-table low inv i lt (home-below sh (e₁ .home) (home₁ .last))
+
+  laid-inside₁ : e₁ .home < length laid
+  laid-inside₁ = omega (arith, inside₁, words-size low inv, inv .plain .size)
+
+  abbrev grown : List Word
+  grown = set ws (e₁ .home) alone
+
+  grown-here : at grown (e₁ .home) ≡ alone
+  grown-here = at-set ws (e₁ .home) alone inside₁
+
+  grown-other : (q : ℕ) → q ≢ e₁ .home → at grown q ≡ at ws q
+  grown-other q n = at-other ws (e₁ .home) q alone n
+
+  grown-locks : (q : ℕ) → at grown q .lock ≡ at ws q .lock
+  grown-locks q = go (same-or-not (e₁ .home) q)
+    where
+      go : (q ≡ e₁ .home) ⊎ (q ≢ e₁ .home) → at grown q .lock ≡ at ws q .lock
+      go (inl same) =
+          ap (λ (r : ℕ). at grown r .lock) same
+          ∙ ap (λ (w : Word). w .lock) (grown-here)
+          ∙ sym (ap (λ (w : Word). w .lock) empty)
+          ∙ ap (λ (r : ℕ). at ws r .lock) (sym same)
+      go (inr n) = ap (λ (w : Word). w .lock) (grown-other q n)
+
+  home-unowned : (u : Task) → Stage sh ws laid shown u → Owns u (e₁ .home) → ⊥
+  home-unowned u s o = true≢false (sym (owned-locked (e₁ .home) s o) ∙ ap (λ (w : Word). w .lock) empty)
+
+  grown-frame : Frame sh ws laid shown grown (addAt laid e₁ (e₁ .home)) (insert e₁ shown) (λ q. q ≡ e₁ .home)
+  grown-frame =
+      record {
+        size = words-size low inv;
+        size′ = length-set ws (e₁ .home) alone ∙ words-size low inv;
+        laid-size = inv .plain .size;
+        laid-size′ = put₁ .state .size;
+        words = λ q n. ap unlock (grown-other q n);
+        grows = λ q taken. grows q taken (same-or-not (e₁ .home) q);
+        laid-words = λ q n. ap (λ (vs : List Word). at vs q) laid-is ∙ at-other laid (e₁ .home) q alone n;
+        keeps = λ f h. held-still e₁ f shown h
+      }
+    where
+      grows : (q : ℕ) → Occupied ws q → (q ≡ e₁ .home) ⊎ (q ≢ e₁ .home) → Occupied grown q
+      grows q taken (inl same) = ap (λ (r : ℕ). at grown r .occupied) same ∙ ap (λ (w : Word). w .occupied) grown-here
+      grows q taken (inr n) = ap (λ (w : Word). w .occupied) (grown-other q n) ∙ taken
+
+  grown-alone : (u : Task) → Apart t₁ u → Stage sh ws laid shown u → LetsAlone ws grown (λ q. q ≡ e₁ .home) u
+  grown-alone u a s =
+      record {
+        locks = λ q o. grown-locks q;
+        ends = λ q o free same. home-unowned u s (subst (Owns u) same o);
+        stretch = λ r q near same.
+          home-unowned u s
+          (own-end u (e₁ .home) (r .from-7) (r .to-10) (walk.free-end (r .from-7) (r .to-10) s .1)
+          (subst (Within (u .left) (u .right)) same near)
+          (ap (λ (w : Word). w .occupied) empty))
+      }
+
+  fresh₁ : (u : Task) → Stage sh ws laid shown u → u .phase ≡ 8 → holds (split sh (u .key)) (insert e₁ shown) ≡ holds (split sh (u .key)) shown
+  unfolding homePlace
+  fresh₁ u s at-8 =
+      held-other e₁ (split sh (u .key)) shown
+      (λ (same : e₁ .home ≡ split sh (u .key) .home).
+      let z = reserved-looked u at-8 s in
+      true≢false
+      (sym (z .taken (split sh (u .key) .home) (omega arith) (omega (arith, z .above)))
+      ∙ ap (λ (r : ℕ). at ws r .occupied) (sym same)
+      ∙ ap (λ (w : Word). w .occupied) empty))
+
+  pub walk-alone : Walked sh ws ts laid shown i
+  unfolding phase.home homePlace isZero isVoid
+  walk-alone =
+      record {
+        next = next;
+        words = grown;
+        laid-after = after-put sh laid e₁;
+        shown-after = insert e₁ shown;
+        step =
+          step-by low inv i lt 1 (omega arith) (omega arith) p
+          (ap
+          (λ (w : Word).
+          cond
+          (w .lock)
+          (to t₁ ws)
+          (cond
+          (isZero w)
+          (to next grown)
+          (cond (w .occupied) (to (toPhase 2 (withLeft (homePlace sh t₁ - 1) t₁)) ws) unsound)))
+          empty);
+        shows =
+          subst
+          (λ (vs : List Word). Steps sh ws ts laid shown i next grown vs (insert e₁ shown))
+          (sym (put₁ .is))
+          (record {
+            plain = put₁ .state;
+            places = grown-places ∙ sym (put₁ .places-after);
+            small = λ q. small q (same-or-not (e₁ .home) q);
+            stage = at-rest (inr refl);
+            others = λ u c s. stage-stable grown-frame u (grown-alone u c s) (fresh₁ u s) s;
+            apart = λ u c s. apart-less back (λ (r : Reserves next). absurd (omega (arith, r .to-10))) c;
+            owner = λ q is-locked. inr (sym (grown-locks q) ∙ is-locked, λ o. absurd (free-hands q o));
+            settled = λ q own others. settle q others (same-or-not (e₁ .home) q)
+          });
+        same-key = refl;
+        ends = λ c. says-shown (inr refl) (held-now e₁ shown);
+        effect = commits new₁ (weight-low t₁ (omega arith)) refl
+      }
+    where
+      next : Task
+      next = toPhase 13 (withAnswer 2 t₁)
+      back : (q : ℕ) → Owns next q → Owns t₁ q
+      back q (by-left c d f) = absurd (omega arith)
+      back q (by-right c d f) = absurd (omega arith)
+      free-hands : (q : ℕ) → Owns t₁ q → ⊥
+      free-hands q (by-left c d f) = omega arith
+      free-hands q (by-right c d f) = omega arith
+      grown-places : occupied grown ≡ set (occupied laid) (e₁ .home) true
+      grown-places = occupied-set ws (e₁ .home) alone ∙ ap (λ (os : List Bool). set os (e₁ .home) true) (inv .places)
+      small : (q : ℕ) → (q ≡ e₁ .home) ⊎ (q ≢ e₁ .home) → at grown q .remainder < 4096
+      small q (inl same) =
+          subst
+          (λ (n : ℕ). n < 4096)
+          (sym (ap (λ (r : ℕ). at grown r .remainder) same ∙ ap (λ (w : Word). w .remainder) grown-here))
+          (omega (arith, small₁))
+      small q (inr n) = subst (λ (m : ℕ). m < 4096) (sym (ap (λ (w : Word). w .remainder) (grown-other q n))) (inv .small q)
+      settle :
+        (q : ℕ) →
+        ((j : ℕ) → j < length ts → j ≢ i → Unfinished (taskAt ts j) q → ⊥) →
+        (q ≡ e₁ .home) ⊎ (q ≢ e₁ .home) → unlock (at grown q) ≡ at (addAt laid e₁ (e₁ .home)) q
+      settle q others (inl same) =
+          ap (λ (r : ℕ). unlock (at grown r)) same
+          ∙ ap unlock grown-here
+          ∙ sym (ap₂ at laid-is same ∙ at-set laid (e₁ .home) alone laid-inside₁)
+      settle q others (inr n) =
+          ap unlock (grown-other q n)
+          ∙ inv .settled q (λ j l u. none j l u (same-or-not i j))
+          ∙ sym (grown-frame .laid-words q n)
+        where
+          none : (j : ℕ) → j < length ts → Unfinished (taskAt ts j) q → (j ≡ i) ⊎ (j ≢ i) → ⊥
+          none j l u (inl same) =
+              let v = subst (λ (m : ℕ). Unfinished (taskAt ts m) q) same u in
+              omega (arith, v .from-9)
+          none j l u (inr m) = others j l m u
