@@ -12,3 +12,4 @@ pub mod Walk
 pub mod Reading
 pub mod Finishing
 pub mod Commit
+pub mod Course

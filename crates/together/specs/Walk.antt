@@ -238,7 +238,7 @@ module _ {sh : Shape} {ws : List Word} {ts : List Task} {laid : List Word} {show
   quiet-low t′ a b = keeps (weight-low t′ b ∙ sym (weight-low t a))
 
   -- phase 1: a locked home is waited for
-  walk-stay : t .phase ≡ 1 → t .key < keys sh → at ws (homePlace sh t) .lock ≡ true → Walked sh ws ts laid shown i
+  pub walk-stay : t .phase ≡ 1 → t .key < keys sh → at ws (homePlace sh t) .lock ≡ true → Walked sh ws ts laid shown i
   unfolding phase.home
   walk-stay p k locked =
       record {
@@ -254,7 +254,7 @@ module _ {sh : Shape} {ws : List Word} {ts : List Task} {laid : List Word} {show
       }
 
   -- an occupied, unlocked home: the look to the left begins
-  walk-home :
+  pub walk-home :
     t .phase ≡ 1 →
     t .key < keys sh →
     at ws (homePlace sh t) .lock ≡ false →
@@ -285,7 +285,7 @@ module _ {sh : Shape} {ws : List Word} {ts : List Task} {laid : List Word} {show
           }
 
   -- ---- phase 2
-  walk-left-on :
+  pub walk-left-on :
     t .phase ≡ 2 → t .key < keys sh → LookedLeft sh ws t → at ws (t .left) .occupied ≡ true → Walked sh ws ts laid shown i
   unfolding phase.lookLeft homePlace
   walk-left-on p k x taken =
@@ -318,7 +318,7 @@ module _ {sh : Shape} {ws : List Word} {ts : List Task} {laid : List Word} {show
           go q b (inl e) a = subst (Occupied ws) (sym e) taken
           go q b (inr n) a = x .taken q (omega arith) b
 
-  walk-left-stop :
+  pub walk-left-stop :
     t .phase ≡ 2 → t .key < keys sh → LookedLeft sh ws t → at ws (t .left) .occupied ≡ false → Walked sh ws ts laid shown i
   unfolding phase.lookLeft homePlace rightGuard
   walk-left-stop p k x free =
@@ -348,7 +348,7 @@ module _ {sh : Shape} {ws : List Word} {ts : List Task} {laid : List Word} {show
           }
 
   -- ---- phase 3
-  walk-right-on :
+  pub walk-right-on :
     t .phase ≡ 3 → t .key < keys sh → Looked sh ws t → at ws (t .right) .occupied ≡ true → Walked sh ws ts laid shown i
   unfolding phase.lookRight homePlace rightGuard
   walk-right-on p k x taken =
@@ -386,7 +386,7 @@ module _ {sh : Shape} {ws : List Word} {ts : List Task} {laid : List Word} {show
           go q a (inl e) b = subst (Occupied ws) (sym e) taken
           go q a (inr n) b = x .taken q a (omega arith)
 
-  walk-right-stop :
+  pub walk-right-stop :
     t .phase ≡ 3 → t .key < keys sh → Looked sh ws t → at ws (t .right) .occupied ≡ false → Walked sh ws ts laid shown i
   unfolding phase.lookRight
   walk-right-stop p k x free =
@@ -404,7 +404,7 @@ module _ {sh : Shape} {ws : List Word} {ts : List Task} {laid : List Word} {show
       }
 
   -- ---- phase 4
-  walk-again : t .phase ≡ 4 → t .key < keys sh → isZero (at ws (t .left)) ≡ false → Walked sh ws ts laid shown i
+  pub walk-again : t .phase ≡ 4 → t .key < keys sh → isZero (at ws (t .left)) ≡ false → Walked sh ws ts laid shown i
   unfolding phase.lockLeft
   walk-again p k other =
       record {
@@ -428,7 +428,7 @@ module _ {sh : Shape} {ws : List Word} {ts : List Task} {laid : List Word} {show
   zero-alone : (p : ℕ) → at ws p ≡ zeroWord → (u : Task) → Apart t u → Stage sh ws laid shown u → Owns u p → ⊥
   zero-alone p z u a s o = true≢false (sym (owned-locked p s o) ∙ ap (λ (w : Word). w .lock) z)
 
-  walk-lock-left :
+  pub walk-lock-left :
     t .phase ≡ 4 → t .key < keys sh → Looked sh ws t → isZero (at ws (t .left)) ≡ true → Walked sh ws ts laid shown i
   unfolding phase.lockLeft relocked
   walk-lock-left p k x is-zero =
@@ -478,7 +478,7 @@ module _ {sh : Shape} {ws : List Word} {ts : List Task} {laid : List Word} {show
       taken u a s q (by-right c d e) v = omega arith
 
   -- ---- phase 5
-  walk-right-taken :
+  pub walk-right-taken :
     t .phase ≡ 5 →
     t .key < keys sh →
     Looked sh ws t →
@@ -557,7 +557,7 @@ module _ {sh : Shape} {ws : List Word} {ts : List Task} {laid : List Word} {show
       go (inl e) = crossed (u .left) (sym e) lower (omega (arith, upper, ordered))
       go (inr e) = crossed (u .right) (sym e) (omega (arith, lower, ordered)) upper
 
-  walk-lock-right :
+  pub walk-lock-right :
     t .phase ≡ 5 →
     t .key < keys sh →
     Looked sh ws t →
@@ -613,7 +613,7 @@ module _ {sh : Shape} {ws : List Word} {ts : List Task} {laid : List Word} {show
       kept q n (by-right c d e) = absurd (omega arith)
 
   -- ---- phase 6
-  walk-back :
+  pub walk-back :
     t .phase ≡ 6 → t .key < keys sh → Looked sh ws t → Walked sh ws ts laid shown i
   unfolding phase.backOff relocked
   walk-back p k x =
