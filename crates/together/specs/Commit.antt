@@ -483,6 +483,7 @@ module _ {sh : Shape} {ws : List Word} {ts : List Task} {laid : List Word} {show
           });
         same-key = refl;
         ends = λ c. absurd (omega arith);
+        full = λ h. inl h;
         effect = commits (y .new) (weight-low t (omega arith)) (walk.weight-moving (toPhase n t) a b)
       }
     where
@@ -716,6 +717,7 @@ module _ {sh : Shape} {ws : List Word} {ts : List Task} {laid : List Word} {show
           });
         same-key = refl;
         ends = λ c. says-shown (inr refl) (held-now e₁ shown);
+        full = λ (h : _≡_ {A = ℕ} 2 3). absurd (omega arith);
         effect = commits new₁ (weight-low t₁ (omega arith)) refl
       }
     where

@@ -292,6 +292,7 @@ module _ {sh : Shape} {ws : List Word} {ts : List Task} {laid : List Word} {show
             (λ q w open-now. absurd (open-now (record { from-9 = a; to-10 = b; inside = w })));
           same-key = refl;
           ends = λ e. absurd (omega arith);
+          full = λ h. inl h;
           effect = keeps (weight-moving (toPhase n (withHand to-place t)) a b ∙ sym (weight-moving t (omega arith) (omega arith)))
         }
       where
@@ -439,6 +440,7 @@ module _ {sh : Shape} {ws : List Word} {ts : List Task} {laid : List Word} {show
             (λ q w open-now. m .finished q w);
           same-key = refl;
           ends = λ e. absurd (omega arith);
+          full = λ (h : _≡_ {A = ℕ} 2 3). absurd (omega arith);
           effect = keeps (sym (weight-moving t (omega arith) (omega arith)))
         }
       where
@@ -511,6 +513,7 @@ module _ {sh : Shape} {ws : List Word} {ts : List Task} {laid : List Word} {show
           (λ q (u : Unfinished t q). absurd (omega (arith, u .to-10)));
         same-key = refl;
         ends = λ e. absurd (omega arith);
+        full = λ h. inl h;
         effect = keeps (weight-late (toPhase 12 t) (omega arith) (omega arith) ∙ sym (weight-late t (omega arith) (omega arith)))
       }
     where
@@ -556,6 +559,7 @@ module _ {sh : Shape} {ws : List Word} {ts : List Task} {laid : List Word} {show
           (λ q (u : Unfinished t q). absurd (omega (arith, u .to-10)));
         same-key = refl;
         ends = λ e. answer-of 13 end-right;
+        full = λ h. inl h;
         effect = keeps (weight-late (toPhase 13 t) (omega arith) (omega arith) ∙ sym (weight-late t (omega arith) (omega arith)))
       }
     where

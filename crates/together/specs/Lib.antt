@@ -13,3 +13,5 @@ pub mod Reading
 pub mod Finishing
 pub mod Commit
 pub mod Course
+pub mod Machine
+pub mod History

@@ -14,7 +14,7 @@ use Rattle.rules.specs.declared.Task.{Task}
 use Rattle.rules.specs.Word.{Word, lockWord, isVoid, isLock}
 use Rattle.rules.specs.Shape.{homes, remainders, keys, rightGuard}
 use Rattle.rules.specs.Entry.{Entry, split}
-use Rattle.rules.specs.Table.{at, entriesBetween}
+use Rattle.rules.specs.Table.{at, occupied, entriesBetween}
 use Rattle.rules.specs.Lay.{holds}
 use Rattle.rules.specs.Record.{homePlace, toPhase, withHand, withGoal, withAnswer}
 use Rattle.rules.specs.Give.{taskAt}
@@ -22,6 +22,10 @@ use Rattle.rules.specs.Phase as phase
 use Rattle.rules.specs.Phase.{to, smaller, markOf, readable, handOf, goalOf, readEntries}
 use Rattle.theory.specs.Dealt.{and-both, and-left, and-right}
 use Rattle.theory.specs.Gaps as gaps
+use Rattle.theory.specs.Gaps.{AllTaken}
+use Rattle.theory.specs.Places.{occupied-at}
+use Rattle.together.specs.Frames.{occupied-same}
+use Rattle.together.specs.Facts.{between-taken}
 use Rattle.together.specs.Invariant.{Looked, Ready, Owns, by-left, by-right, Reserves, Unfinished, Inv, Stage, has-read, frees-left}
 use Rattle.together.specs.Invariant.{ends-found, ends-full}
 use Rattle.together.specs.Update.{Steps}
@@ -100,11 +104,22 @@ module _ {sh : Shape} {ws : List Word} {ts : List Task} {laid : List Word} {show
           (frees-left refl k (looked-as t next refl refl refl x) (ends-found refl (sym (see .same) ∙ h) left-held right-held));
         same-key = refl;
         ends = λ c. absurd (omega arith);
+        full = λ (h : _≡_ {A = ℕ} 1 3). absurd (omega arith);
         effect = keeps (sym (weight-low t (omega arith)))
       }
     where
       next : Task
       next = toPhase 11 (withAnswer 1 t)
+
+  -- between two guards all is occupied
+  all-taken : (eqb (t .left) 0 && eqb (t .right) (rightGuard sh)) ≡ true → AllTaken sh (occupied laid)
+  unfolding rightGuard
+  all-taken guards q home =
+      let l = eqb-true (t .left) 0 (and-left (eqb (t .left) 0) _ guards) in
+      let g = eqb-true (t .right) (homes sh + 1) (and-right (eqb (t .left) 0) _ guards) in
+      occupied-at laid q
+      ∙ occupied-same laid ws q (sym (inv .places))
+      ∙ between-taken x q (omega (arith, home .first)) (omega (arith, home .last))
 
   -- both ends are guards: full
   walk-full :
@@ -123,6 +138,7 @@ module _ {sh : Shape} {ws : List Word} {ts : List Task} {laid : List Word} {show
           (frees-left refl k (looked-as t next refl refl refl x) (ends-full refl left-held right-held));
         same-key = refl;
         ends = λ c. absurd (omega arith);
+        full = λ a. inr (all-taken guards, sym (see .same) ∙ h);
         effect = keeps (sym (weight-low t (omega arith)))
       }
     where
@@ -183,6 +199,7 @@ module _ {sh : Shape} {ws : List Word} {ts : List Task} {laid : List Word} {show
           (has-read refl k (looked-as t reading refl refl refl x) left-held right-held (is-ready h open-end));
         same-key = refl;
         ends = λ c. absurd (omega arith);
+        full = λ h. inl h;
         effect = quiet-low low inv i lt reading (omega arith) (omega arith)
       }
 

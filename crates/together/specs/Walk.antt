@@ -28,7 +28,7 @@ use Rattle.words.specs.Split.{split-in-shape}
 use Rattle.theory.specs.Run.{unlock}
 use Rattle.theory.specs.Dealt.{word-path, and-left, and-right}
 use Rattle.theory.specs.Gaps as gaps
-use Rattle.theory.specs.Gaps.{Side, other}
+use Rattle.theory.specs.Gaps.{Side, other, AllTaken}
 use Rattle.theory.specs.Cut.{end}
 use Rattle.theory.specs.Places.{occupied-at}
 use Rattle.theory.specs.Building.{State, after-put}
@@ -69,6 +69,8 @@ pub record Walked (sh : Shape) (ws : List Word) (ts : List Task) (laid : List Wo
   pub shows : Steps sh ws ts laid shown i next words laid-after shown-after
   pub same-key : next .key ≡ taskAt ts i .key
   pub ends : next .phase ≡ 13 → Answered sh shown-after next
+  -- an answer full is given only at a full table, for a key that it does not show
+  pub full : next .answer ≡ 3 → (taskAt ts i .answer ≡ 3) ⊎ (AllTaken sh (occupied laid) × (holds (split sh (taskAt ts i .key)) shown ≡ false))
   pub effect : Effect sh (taskAt ts i) next laid shown laid-after shown-after
 
 -- ---- a step, by its phase's number
@@ -250,6 +252,7 @@ module _ {sh : Shape} {ws : List Word} {ts : List Task} {laid : List Word} {show
         shows = free-step t (omega arith) (omega arith) (at-home p k);
         same-key = refl;
         ends = λ e. absurd (omega arith);
+        full = λ h. inl h;
         effect = keeps refl
       }
 
@@ -270,6 +273,7 @@ module _ {sh : Shape} {ws : List Word} {ts : List Task} {laid : List Word} {show
         shows = free-step next (omega arith) (omega arith) (looks-left refl k near);
         same-key = refl;
         ends = λ e. absurd (omega arith);
+        full = λ h. inl h;
         effect = quiet-low next (omega arith) (omega arith)
       }
     where
@@ -298,6 +302,7 @@ module _ {sh : Shape} {ws : List Word} {ts : List Task} {laid : List Word} {show
         shows = free-step next (omega arith) (omega arith) (looks-left p k near);
         same-key = refl;
         ends = λ e. absurd (omega arith);
+        full = λ h. inl h;
         effect = quiet-low next (omega arith) (omega arith)
       }
     where
@@ -331,6 +336,7 @@ module _ {sh : Shape} {ws : List Word} {ts : List Task} {laid : List Word} {show
         shows = free-step next (omega arith) (omega arith) (looks-right (omega arith) (omega arith) k near);
         same-key = refl;
         ends = λ e. absurd (omega arith);
+        full = λ h. inl h;
         effect = quiet-low next (omega arith) (omega arith)
       }
     where
@@ -361,6 +367,7 @@ module _ {sh : Shape} {ws : List Word} {ts : List Task} {laid : List Word} {show
         shows = free-step next (omega arith) (omega arith) (looks-right (omega arith) (omega arith) k near);
         same-key = refl;
         ends = λ e. absurd (omega arith);
+        full = λ h. inl h;
         effect = quiet-low next (omega arith) (omega arith)
       }
     where
@@ -400,6 +407,7 @@ module _ {sh : Shape} {ws : List Word} {ts : List Task} {laid : List Word} {show
           free-step (toPhase 4 t) (omega arith) (omega arith) (looks-right (omega arith) (omega arith) k (looked-as t (toPhase 4 t) refl refl refl x));
         same-key = refl;
         ends = λ e. absurd (omega arith);
+        full = λ h. inl h;
         effect = quiet-low (toPhase 4 t) (omega arith) (omega arith)
       }
 
@@ -416,6 +424,7 @@ module _ {sh : Shape} {ws : List Word} {ts : List Task} {laid : List Word} {show
         shows = free-step (toPhase 1 t) (omega arith) (omega arith) (at-home refl k);
         same-key = refl;
         ends = λ e. absurd (omega arith);
+        full = λ h. inl h;
         effect = quiet-low (toPhase 1 t) (omega arith) (omega arith)
       }
 
@@ -464,6 +473,7 @@ module _ {sh : Shape} {ws : List Word} {ts : List Task} {laid : List Word} {show
           (λ q (u : Unfinished t q). absurd (omega (arith, u .from-9)));
         same-key = refl;
         ends = λ e. absurd (omega arith);
+        full = λ h. inl h;
         effect = quiet-low next (omega arith) (omega arith)
       }
     where
@@ -504,6 +514,7 @@ module _ {sh : Shape} {ws : List Word} {ts : List Task} {laid : List Word} {show
           (λ q (u : Unfinished t q). absurd (omega (arith, u .from-9)));
         same-key = refl;
         ends = λ e. absurd (omega arith);
+        full = λ h. inl h;
         effect = quiet-low (toPhase 6 t) (omega arith) (omega arith)
       }
     where
@@ -596,6 +607,7 @@ module _ {sh : Shape} {ws : List Word} {ts : List Task} {laid : List Word} {show
           (λ q (u : Unfinished t q). absurd (omega (arith, u .from-9)));
         same-key = refl;
         ends = λ e. absurd (omega arith);
+        full = λ h. inl h;
         effect = quiet-low next (omega arith) (omega arith)
       }
     where
@@ -644,6 +656,7 @@ module _ {sh : Shape} {ws : List Word} {ts : List Task} {laid : List Word} {show
           (λ q (u : Unfinished t q). absurd (omega (arith, u .from-9)));
         same-key = refl;
         ends = λ e. absurd (omega arith);
+        full = λ h. inl h;
         effect = quiet-low (toPhase 1 t) (omega arith) (omega arith)
       }
     where
