@@ -15,3 +15,4 @@ pub mod Commit
 pub mod Course
 pub mod Machine
 pub mod History
+pub mod Fair

@@ -1,0 +1,161 @@
+-- What holds of every world that a course reaches: `Fair`. It begins so (`fair-begin`), and each action keeps it (`fair-act`).
+-- Assumes nothing.
+use Prim.Native.Nat.{ℕ, zero, suc, _+_, _*_, _≤_, _<_}
+use mathlib.Core.Path.{_≡_, refl, sym, ap, ap₂, _∙_, subst}
+use mathlib.Core.Logic.{_⊎_, _≢_, inl, inr}
+use mathlib.Core.Bool.{Bool, true, false, not, cond, _&&_, _||_, true≢false, false≢true}
+use mathlib.Core.List.{List, [], _∷_, _++_, map}
+use native.Mathlib.Omega.{arith}
+use lib.ListN.{length, getD, set, length-set}
+use lib.Dec.{eqb, leb, ltb}
+use borrow.Author.Tests.{eqb-true, eqb-false, eq-eqb, ne-eqb, le-leb, leb-true, lt-ltb, ltb-true, le-ltb}
+use Rattle.rules.specs.declared.Shape.{Shape}
+use Rattle.rules.specs.declared.Task.{Task}
+use Rattle.rules.specs.Lists.{bitOf, count, all, any}
+use Rattle.rules.specs.Word.{Word, zeroWord}
+use Rattle.rules.specs.Bytes.{wordsOf, bytesOf}
+use Rattle.rules.specs.Shape.{shapeOf, inRange, remainders, keys, places, goodTable, fitsLength}
+use Rattle.rules.specs.Entry.{Entry, split, sameEntry}
+use Rattle.rules.specs.Table.{at, occupied, entries, locked}
+use Rattle.rules.specs.Lay.{holds, insert}
+use Rattle.rules.specs.Build.{puts}
+use Rattle.rules.specs.Answer.{says, refuses, Leaves, leaves}
+use Rattle.rules.specs.Record.{busy, atRest, fits}
+use Rattle.rules.specs.Give.{given, noTask, taskAt, goodTask, giveTo, storedAt, give}
+use Rattle.rules.specs.Step as rules-step
+use Rattle.rules.specs.Step.{Lent, Stepped, refused, stepOf, lentAfter, step}
+use Rattle.words.specs.Range.{InRange, good-table, remainders-high}
+use Rattle.words.specs.Layout.{bytes-length, words-of-bytes, remainders-small}
+use Rattle.theory.specs.Run.{unlock}
+use Rattle.theory.specs.Perm as perm
+use Rattle.theory.specs.Perm.{All}
+use Rattle.theory.specs.Insert.{holds-insert}
+use Rattle.theory.specs.Dealt.{and-left, and-right, and-both, or-left, or-right}
+use Rattle.theory.specs.Joined.{or-none}
+use Rattle.theory.specs.Keys.{listed}
+use Rattle.theory.specs.Building.{State, after-put}
+use Rattle.demands.specs.Terms.{SoundTable, PlainTable, InKeys, entriesOf}
+use Rattle.demands.specs.Lent.{in-range-of, low-of, size-of, state-of, bytes-small}
+use Rattle.demands.specs.Proof2.{same-split}
+use Rattle.demands.specs.Proof3.{listed-split}
+use Rattle.together.specs.Invariant.{Owns, by-left, by-right, Reserves, Apart, Unfinished, Inv, Stage, at-rest, at-home}
+use Rattle.together.specs.Update.{Steps, inv-update, task-same, task-other, same-or-not}
+use Rattle.together.specs.Facts.{in-order, words-size}
+use Rattle.together.specs.Fitting.{stage-fits}
+use Rattle.together.specs.Quiet.{still}
+use Rattle.together.specs.Walk.{Walked, Effect, keeps, commits, weight, Answered, says-full, says-shown}
+use Rattle.together.specs.Course.{walk}
+use Rattle.together.specs.Commit.{held-still, plain-unlocked}
+use Rattle.together.specs.Machine.{Action, gives, steps, Said, World, begin, afterGive, afterStep, act, course, quiet}
+use Rattle.together.specs.Machine.{timesGiven, timesSaid, timesInserted}
+use Rattle.together.specs.History.{timesLoaded, timesBusy, heard, tally-step, answers-step, give-tally, quiet-counts, rest-phase}
+
+-- an answer: full, or found or inserted with its key shown
+pub data Means (sh : Shape) (shown : List Entry) (s : Said) : Type 0 where
+  means-full : s .answer ≡ 3 → Means sh shown s
+  means-shown : (s .answer ≡ 1) ⊎ (s .answer ≡ 2) → holds (split sh (s .key)) shown ≡ true → Means sh shown s
+
+pub record Fair (m r : ℕ) (start : List ℕ) (w : World) : Type 0 where
+  pub good : goodTable (shapeOf m r) (length (w .table)) ≡ true
+  pub small : (i : ℕ) → getD (w .table) i 0 < 256
+  pub few : length (w .tasks) ≤ 16
+  pub laid : List Word
+  pub shown : List Entry
+  pub inv : Inv (shapeOf m r) (wordsOf (w .table)) (w .tasks) laid shown
+  -- the keys put so far, in order: the table laid is the starting one with these put, and shows no others beside the starting ones
+  pub put : List Entry
+  pub chain : laid ≡ puts (shapeOf m r) (wordsOf start) put
+  pub shown-is : (x : Entry) → holds x shown ≡ (holds x (entries (wordsOf start)) || holds x put)
+  pub put-new : (x : Entry) → holds x put ≡ true → holds x (entries (wordsOf start)) ≡ false
+  pub put-given : (x : Entry) → holds x put ≡ true → holds x (entriesOf (shapeOf m r) (w .given)) ≡ true
+  -- a key is shown once: as a starting key, as an inserted one, or as one that a task has put and not yet said
+  pub tally :
+    (key : ℕ) →
+    bitOf (holds (split (shapeOf m r) key) (entries (wordsOf start))) + timesInserted key (w .said)
+    + timesLoaded key (w .tasks)
+    ≡ bitOf (holds (split (shapeOf m r) key) shown)
+  -- each accepted give is answered, or its task is busy
+  pub answers : (key : ℕ) → timesGiven key (w .given) ≡ timesSaid key (w .said) + timesBusy key (w .tasks)
+  pub task-given :
+    (i : ℕ) →
+    i < length (w .tasks) →
+    1 ≤ taskAt (w .tasks) i .phase → taskAt (w .tasks) i .phase ≤ 12 → listed (taskAt (w .tasks) i .key) (w .given) ≡ true
+  pub in-keys : InKeys (shapeOf m r) (w .given)
+  pub meaning : All (Means (shapeOf m r) shown) (w .said)
+
+-- ---- the beginning
+unlocked-at : (ws : List Word) (p : ℕ) → locked ws ≡ false → at ws p .lock ≡ false
+unfolding locked any
+unlocked-at [] p free = refl
+unlocked-at (w ∷ ws) zero free = go (w .lock) free
+  where
+    go : (b : Bool) → (b || locked ws) ≡ false → b ≡ false
+    go true h = h
+    go false h = refl
+unlocked-at (w ∷ ws) (suc p) free = unlocked-at ws p (go (w .lock) free)
+  where
+    go : (b : Bool) → (b || locked ws) ≡ false → locked ws ≡ false
+    go true h = absurd (true≢false h)
+    go false h = h
+
+rest-at : (ts : List Task) (i : ℕ) → i < length ts → all atRest ts ≡ true → (taskAt ts i .phase ≡ 0) ⊎ (taskAt ts i .phase ≡ 13)
+unfolding all
+rest-at [] i lt h = absurd (omega arith)
+rest-at (t ∷ ts) zero lt h = rest-phase t (and-left (atRest t) _ h)
+rest-at (t ∷ ts) (suc i) lt h = rest-at ts i (omega arith) (and-right (atRest t) _ h)
+
+rest-owns : (t : Task) (p : ℕ) → (t .phase ≡ 0) ⊎ (t .phase ≡ 13) → Owns t p → ⊥
+rest-owns t p (inl e) (by-left a b c) = omega arith
+rest-owns t p (inr e) (by-left a b c) = omega arith
+rest-owns t p (inl e) (by-right a b c) = omega arith
+rest-owns t p (inr e) (by-right a b c) = omega arith
+
+rest-reserves : (t : Task) → (t .phase ≡ 0) ⊎ (t .phase ≡ 13) → Reserves t → ⊥
+rest-reserves t (inl e) r = omega (arith, r .from-7)
+rest-reserves t (inr e) r = omega (arith, r .to-10)
+
+inv-begin :
+  {sh : Shape} {ws : List Word} {shown : List Entry} (ts : List Task) →
+  State sh ws shown → ((p : ℕ) → at ws p .remainder < 4096) → all atRest ts ≡ true → Inv sh ws ts ws shown
+inv-begin {sh} {ws} ts s small rest =
+    record {
+      plain = s;
+      places = refl;
+      small = small;
+      stage = λ i lt. at-rest (rest-at ts i lt rest);
+      apart = λ i j l k n.
+        record {
+          owners = λ p x y. rest-owns (taskAt ts i) p (rest-at ts i l rest) x;
+          stretches = λ x y p a b. rest-reserves (taskAt ts i) (rest-at ts i l rest) x
+        };
+      owner = λ p is-locked. absurd (true≢false (sym is-locked ∙ unlocked-at ws p (s .free)));
+      settled = λ p none. plain-unlocked p s
+    }
+
+pub fair-begin :
+  {m r : ℕ} {bytes : List ℕ} (ts : List Task) →
+  PlainTable m r bytes → length ts ≤ 16 → all atRest ts ≡ true → Fair m r bytes (begin bytes ts)
+unfolding puts timesInserted timesSaid timesGiven count all holds any
+fair-begin {m} {r} {bytes} ts t few rest =
+    record {
+      good = t .whole .good;
+      small = t .whole .small;
+      few = few;
+      laid = wordsOf bytes;
+      shown = entries (wordsOf bytes);
+      inv = inv-begin ts (state-of t) (remainders-small bytes) rest;
+      put = [];
+      chain = refl;
+      shown-is = λ x. sym (or-none (holds x (entries (wordsOf bytes))));
+      put-new = λ x h. absurd (false≢true h);
+      put-given = λ x h. absurd (false≢true h);
+      tally = λ key. omega (arith, quiet-counts key ts rest .0);
+      answers = λ key. omega (arith, quiet-counts key ts rest .1);
+      task-given = λ i lt a b. absurd (never i (rest-at ts i lt rest) a b);
+      in-keys = refl;
+      meaning = perm.none
+    }
+  where
+    never : (i : ℕ) → (taskAt ts i .phase ≡ 0) ⊎ (taskAt ts i .phase ≡ 13) → 1 ≤ taskAt ts i .phase → taskAt ts i .phase ≤ 12 → ⊥
+    never i (inl e) a b = omega arith
+    never i (inr e) a b = omega arith
