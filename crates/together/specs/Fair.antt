@@ -7,6 +7,7 @@ use mathlib.Core.Bool.{Bool, true, false, not, cond, _&&_, _||_, true≢false, f
 use mathlib.Core.List.{List, [], _∷_, _++_, map}
 use native.Mathlib.Omega.{arith}
 use lib.ListN.{length, getD, set, length-set}
+use lib.Seq.{set-getD}
 use lib.Dec.{eqb, leb, ltb}
 use borrow.Author.Tests.{eqb-true, eqb-false, eq-eqb, ne-eqb, le-leb, leb-true, lt-ltb, ltb-true, le-ltb}
 use Rattle.rules.specs.declared.Shape.{Shape}
@@ -20,7 +21,7 @@ use Rattle.rules.specs.Table.{at, occupied, entries, locked}
 use Rattle.rules.specs.Lay.{holds, insert}
 use Rattle.rules.specs.Build.{puts}
 use Rattle.rules.specs.Answer.{says, refuses, Leaves, leaves}
-use Rattle.rules.specs.Record.{busy, atRest, fits}
+use Rattle.rules.specs.Record.{busy, atRest, fitsBusy, fits}
 use Rattle.rules.specs.Give.{given, noTask, taskAt, goodTask, giveTo, storedAt, give}
 use Rattle.rules.specs.Step as rules-step
 use Rattle.rules.specs.Step.{Lent, Stepped, refused, stepOf, lentAfter, step}
@@ -159,3 +160,157 @@ fair-begin {m} {r} {bytes} ts t few rest =
     never : (i : ℕ) → (taskAt ts i .phase ≡ 0) ⊎ (taskAt ts i .phase ≡ 13) → 1 ≤ taskAt ts i .phase → taskAt ts i .phase ≤ 12 → ⊥
     never i (inl e) a b = omega arith
     never i (inr e) a b = omega arith
+
+-- ---- a give
+-- who is not busy, under the invariant, is at rest
+stage-rest :
+  {sh : Shape} {ws laid : List Word} {shown : List Entry} (t : Task) →
+  length laid ≡ places sh → Stage sh ws laid shown t → busy t ≡ false → (t .phase ≡ 0) ⊎ (t .phase ≡ 13)
+unfolding fits
+stage-rest {sh} {ws} {laid} {shown} t size s idle = go (atRest t) refl (stage-fits {ws = ws} {shown = shown} size t s)
+  where
+    go : (b : Bool) → atRest t ≡ b → fits sh t ≡ true → (t .phase ≡ 0) ⊎ (t .phase ≡ 13)
+    go true e h = rest-phase t e
+    go false e h = absurd (false≢true (sym (ap₂ (λ (a b : Bool). a || (b && fitsBusy sh t)) e idle) ∙ h))
+
+-- the record of an accepted give
+inv-give :
+  {sh : Shape} {ws : List Word} {ts : List Task} {laid : List Word} {shown : List Entry} (i key : ℕ) →
+  remainders sh ≤ 4096 →
+  i < length ts →
+  key < keys sh →
+  (taskAt ts i .phase ≡ 0) ⊎ (taskAt ts i .phase ≡ 13) →
+  Inv sh ws ts laid shown → Inv sh ws (set ts i (given key)) laid shown
+unfolding given
+inv-give {sh} {ws} {ts} {laid} {shown} i key low lt small rest inv =
+    inv-update
+    i
+    lt
+    inv
+    (still
+    i
+    (given key)
+    low
+    inv
+    (at-home refl small)
+    (λ p o. absurd (rest-owns (taskAt ts i) p rest o))
+    (λ p o. absurd (no-hands p o))
+    (λ (r : Reserves (given key)). absurd (omega (arith, r .from-7)))
+    (λ p u. absurd (unmoved p rest u)))
+  where
+    no-hands : (p : ℕ) → Owns (given key) p → ⊥
+    no-hands p (by-left a b c) = omega arith
+    no-hands p (by-right a b c) = omega arith
+    unmoved : (p : ℕ) → (taskAt ts i .phase ≡ 0) ⊎ (taskAt ts i .phase ≡ 13) → Unfinished (taskAt ts i) p → ⊥
+    unmoved p (inl e) u = omega (arith, u .from-9)
+    unmoved p (inr e) u = omega (arith, u .to-10)
+
+-- what changes when a key is given: the record, and the history by one key
+given-world : World → ℕ → ℕ → World
+given-world w i key =
+    record {
+      table = w .table;
+      tasks = set (w .tasks) i (given key);
+      given = key ∷ w .given;
+      said = w .said
+    }
+
+fair-given :
+  {m r : ℕ} {start : List ℕ} {w : World} (i key : ℕ) →
+  Fair m r start w →
+  i < length (w .tasks) →
+  key < keys (shapeOf m r) → busy (taskAt (w .tasks) i) ≡ false → Fair m r start (given-world w i key)
+unfolding given-world given timesGiven count all holds any listed
+fair-given {m} {r} {start} {w} i key f lt small idle =
+    record {
+      good = f .good;
+      small = f .small;
+      few = omega (arith, length-set (w .tasks) i (given key), f .few);
+      laid = f .laid;
+      shown = f .shown;
+      inv = inv-give i key low lt small rest (f .inv);
+      put = f .put;
+      chain = f .chain;
+      shown-is = f .shown-is;
+      put-new = f .put-new;
+      put-given = λ x h. or-right (sameEntry x (split (shapeOf m r) key)) _ (f .put-given x h);
+      tally = λ k. omega (arith, f .tally k, give-tally k (w .tasks) i (given key) lt rest refl .0);
+      answers = λ k.
+        omega (arith, f .answers k, give-tally k (w .tasks) i (given key) lt rest refl .1, ap bitOf (eqb-sym k key));
+      task-given = λ j l a b. or-else j l a b (same-or-not i j);
+      in-keys = and-both _ _ (lt-ltb key (keys (shapeOf m r)) small) (f .in-keys);
+      meaning = f .meaning
+    }
+  where
+    low : remainders (shapeOf m r) ≤ 4096
+    low = remainders-high (shapeOf m r) (good-table (shapeOf m r) (length (w .table)) (f .good) .0)
+    rest : (taskAt (w .tasks) i .phase ≡ 0) ⊎ (taskAt (w .tasks) i .phase ≡ 13)
+    rest = stage-rest (taskAt (w .tasks) i) (f .inv .plain .size) (f .inv .stage i lt) idle
+    eqb-sym : (a b : ℕ) → eqb a b ≡ eqb b a
+    eqb-sym a b = go (eqb b a) refl
+      where
+        go : (c : Bool) → eqb b a ≡ c → eqb a b ≡ c
+        go true e = eq-eqb a b (sym (eqb-true b a e))
+        go false e = ne-eqb a b (λ same. eqb-false b a e (sym same))
+    or-else :
+      (j : ℕ) →
+      j < length (set (w .tasks) i (given key)) →
+      1 ≤ taskAt (set (w .tasks) i (given key)) j .phase →
+      taskAt (set (w .tasks) i (given key)) j .phase ≤ 12 →
+      (j ≡ i) ⊎ (j ≢ i) →
+      (eqb (taskAt (set (w .tasks) i (given key)) j .key) key || listed (taskAt (set (w .tasks) i (given key)) j .key) (w .given)) ≡ true
+    or-else j l a b (inl e) =
+        or-left
+        _
+        _
+        (eq-eqb
+        (taskAt (set (w .tasks) i (given key)) j .key)
+        key
+        (ap (λ (k : ℕ). taskAt (set (w .tasks) i (given key)) k .key) e
+        ∙ ap (λ (t : Task). t .key) (task-same (w .tasks) i (given key) lt)))
+    or-else j l a b (inr n) =
+        let same = task-other (w .tasks) i j (given key) n in
+        or-right
+        (eqb (taskAt (set (w .tasks) i (given key)) j .key) key)
+        _
+        (ap (λ (t : Task). listed (t .key) (w .given)) same
+        ∙ f .task-given
+        j
+        (omega (arith, length-set (w .tasks) i (given key)))
+        (subst (λ (t : Task). 1 ≤ t .phase) same a)
+        (subst (λ (t : Task). t .phase ≤ 12) same b))
+
+good-range : (sh : Shape) (n : ℕ) → goodTable sh n ≡ true → inRange sh ≡ true
+unfolding goodTable
+good-range sh n h = and-left (inRange sh) _ h
+
+-- give, accepted or refused
+pub fair-give :
+  {m r : ℕ} {start : List ℕ} {w : World} (i key : ℕ) → Fair m r start w → Fair m r start (act m r w (gives i key))
+unfolding act give goodTask giveTo given-world
+fair-give {m} {r} {start} {w} i key f =
+    go (ltb key (keys (shapeOf m r))) (ltb i (length (w .tasks))) (busy (taskAt (w .tasks) i)) refl refl refl
+  where
+    range : inRange (shapeOf m r) ≡ true
+    range = good-range (shapeOf m r) (length (w .table)) (f .good)
+    sixteen : leb (length (w .tasks)) 16 ≡ true
+    sixteen = le-leb (length (w .tasks)) 16 (f .few)
+    by-answer :
+      {x : Leaves (List Task)} → give m r key (w .tasks) i ≡ x → Fair m r start (afterGive w key x) → Fair m r start (act m r w (gives i key))
+    by-answer e g = subst (λ (x : Leaves (List Task)). Fair m r start (afterGive w key x)) (sym e) g
+    go :
+      (a b c : Bool) →
+      ltb key (keys (shapeOf m r)) ≡ a →
+      ltb i (length (w .tasks)) ≡ b → busy (taskAt (w .tasks) i) ≡ c → Fair m r start (act m r w (gives i key))
+    go false b c x y z = by-answer {x = leaves (refuses 2) (w .tasks)} (rw (range, x)) f
+    go true false c x y z = by-answer {x = leaves (refuses 3) (w .tasks)} (rw (range, x, sixteen, y)) f
+    go true true true x y z =
+        by-answer
+        {x = leaves (refuses 4) (w .tasks)}
+        (rw (range, x, sixteen, y, z) (ap (leaves (refuses 4)) (set-getD (w .tasks) i noTask)))
+        f
+    go true true false x y z =
+        by-answer
+        {x = leaves (says 0) (set (w .tasks) i (given key))}
+        (rw (range, x, sixteen, y, z))
+        (fair-given i key f (ltb-true i (length (w .tasks)) y) (ltb-true key (keys (shapeOf m r)) x) z)
