@@ -21,8 +21,8 @@ use Rattle.together.specs.Walk.{weight}
 
 -- ---- counting over a list in which one element is stored anew
 pub count-set :
-  {A : Type 0} (f : A → Bool) (xs : List A) (i : ℕ) (x d : A) →
-  i < length xs → count f (set xs i x) + bitOf (f (getD xs i d)) ≡ count f xs + bitOf (f x)
+    {A : Type 0} (f : A → Bool) (xs : List A) (i : ℕ) (x d : A) →
+    i < length xs → count f (set xs i x) + bitOf (f (getD xs i d)) ≡ count f xs + bitOf (f x)
 unfolding count
 count-set f [] i x d lt = absurd (omega arith)
 count-set f (y ∷ xs) zero x d lt = omega arith
@@ -90,33 +90,37 @@ abbrev pub heard : Task → List Said → List Said
 heard t ss = cond (eqb (t .phase) 13) (record { key = t .key; answer = t .answer } ∷ ss) ss
 
 pub tally-step :
-  (key : ℕ) (ts : List Task) (i : ℕ) (t′ : Task) (ss : List Said) →
-  i < length ts →
-  taskAt ts i .phase ≤ 12 →
-  t′ .phase ≤ 13 →
-  t′ .key ≡ taskAt ts i .key →
-  timesInserted key (heard t′ ss) + timesLoaded key (set ts i t′) + cond (eqb (taskAt ts i .key) key) (weight (taskAt ts i)) 0
-  ≡ timesInserted key ss + timesLoaded key ts + cond (eqb (taskAt ts i .key) key) (weight t′) 0
+    (key : ℕ) (ts : List Task) (i : ℕ) (t′ : Task) (ss : List Said) →
+    i < length ts →
+    taskAt ts i .phase ≤ 12 →
+    t′ .phase ≤ 13 →
+    t′ .key ≡ taskAt ts i .key →
+    timesInserted key (heard t′ ss) + timesLoaded key (set ts i t′) + cond (eqb (taskAt ts i .key) key) (weight (taskAt ts i)) 0
+    ≡ timesInserted key ss + timesLoaded key ts + cond (eqb (taskAt ts i .key) key) (weight t′) 0
 unfolding timesInserted timesLoaded count
 tally-step key ts i t′ ss lt before after same = go (eqb (t′ .phase) 13) refl
   where
     t : Task
     t = taskAt ts i
+
     mine : eqb (t′ .key) key ≡ eqb (t .key) key
     mine = ap (λ (k : ℕ). eqb k key) same
+
     moved : count (λ (u : Task). eqb (u .key) key && loaded u) (set ts i t′) + bitOf (eqb (t .key) key && loaded t) ≡ count (λ (u : Task). eqb (u .key) key && loaded u) ts + bitOf (eqb (t′ .key) key && loaded t′)
     moved = count-set (λ (u : Task). eqb (u .key) key && loaded u) ts i t′ noTask lt
+
     old : bitOf (eqb (t .key) key && loaded t) ≡ cond (eqb (t .key) key) (weight t) 0
     old = guard-bit (eqb (t .key) key) (loaded t) ∙ ap (λ (n : ℕ). cond (eqb (t .key) key) n 0) (sym (load-busy t before))
+
     go :
-      (b : Bool) →
-      eqb (t′ .phase) 13 ≡ b →
-      count (λ (s : Said). eqb (s .key) key && eqb (s .answer) 2) (cond b (record { key = t′ .key; answer = t′ .answer } ∷ ss) ss)
-      + count (λ (u : Task). eqb (u .key) key && loaded u) (set ts i t′)
-      + cond (eqb (t .key) key) (weight t) 0
-      ≡ count (λ (s : Said). eqb (s .key) key && eqb (s .answer) 2) ss
-      + count (λ (u : Task). eqb (u .key) key && loaded u) ts
-      + cond (eqb (t .key) key) (weight t′) 0
+        (b : Bool) →
+        eqb (t′ .phase) 13 ≡ b →
+        count (λ (s : Said). eqb (s .key) key && eqb (s .answer) 2) (cond b (record { key = t′ .key; answer = t′ .answer } ∷ ss) ss)
+        + count (λ (u : Task). eqb (u .key) key && loaded u) (set ts i t′)
+        + cond (eqb (t .key) key) (weight t) 0
+        ≡ count (λ (s : Said). eqb (s .key) key && eqb (s .answer) 2) ss
+        + count (λ (u : Task). eqb (u .key) key && loaded u) ts
+        + cond (eqb (t .key) key) (weight t′) 0
     go true e =
         let done = eqb-true (t′ .phase) 13 e in
         let none : bitOf (eqb (t′ .key) key && loaded t′) ≡ 0 = guard-bit (eqb (t′ .key) key) (loaded t′) ∙ ap (λ (b : Bool). cond (eqb (t′ .key) key) (bitOf b) 0) (unloaded-done t′ done) ∙ nothing (eqb (t′ .key) key) in
@@ -135,33 +139,37 @@ tally-step key ts i t′ ss lt before after same = go (eqb (t′ .phase) 13) ref
 
 -- and for gives and answers: each accepted give is answered or its task is busy
 pub answers-step :
-  (key : ℕ) (ts : List Task) (i : ℕ) (t′ : Task) (ss : List Said) →
-  i < length ts →
-  1 ≤ taskAt ts i .phase →
-  taskAt ts i .phase ≤ 12 →
-  1 ≤ t′ .phase →
-  t′ .phase ≤ 13 →
-  t′ .key ≡ taskAt ts i .key →
-  timesSaid key (heard t′ ss) + timesBusy key (set ts i t′) ≡ timesSaid key ss + timesBusy key ts
+    (key : ℕ) (ts : List Task) (i : ℕ) (t′ : Task) (ss : List Said) →
+    i < length ts →
+    1 ≤ taskAt ts i .phase →
+    taskAt ts i .phase ≤ 12 →
+    1 ≤ t′ .phase →
+    t′ .phase ≤ 13 →
+    t′ .key ≡ taskAt ts i .key →
+    timesSaid key (heard t′ ss) + timesBusy key (set ts i t′) ≡ timesSaid key ss + timesBusy key ts
 unfolding timesSaid timesBusy count
 answers-step key ts i t′ ss lt first before next-first after same = go (eqb (t′ .phase) 13) refl
   where
     t : Task
     t = taskAt ts i
+
     mine : eqb (t′ .key) key ≡ eqb (t .key) key
     mine = ap (λ (k : ℕ). eqb k key) same
+
     moved :
-      count (λ (u : Task). eqb (u .key) key && busy u) (set ts i t′) + bitOf (eqb (t .key) key && busy t)
-      ≡ count (λ (u : Task). eqb (u .key) key && busy u) ts + bitOf (eqb (t′ .key) key && busy t′)
+        count (λ (u : Task). eqb (u .key) key && busy u) (set ts i t′) + bitOf (eqb (t .key) key && busy t)
+        ≡ count (λ (u : Task). eqb (u .key) key && busy u) ts + bitOf (eqb (t′ .key) key && busy t′)
     moved = count-set (λ (u : Task). eqb (u .key) key && busy u) ts i t′ noTask lt
+
     old : bitOf (eqb (t .key) key && busy t) ≡ bitOf (eqb (t .key) key)
     old = ap (λ (b : Bool). bitOf (eqb (t .key) key && b)) (busy-is t first before) ∙ ap bitOf (and-true (eqb (t .key) key))
+
     go :
-      (b : Bool) →
-      eqb (t′ .phase) 13 ≡ b →
-      count (λ (s : Said). eqb (s .key) key) (cond b (record { key = t′ .key; answer = t′ .answer } ∷ ss) ss)
-      + count (λ (u : Task). eqb (u .key) key && busy u) (set ts i t′)
-      ≡ count (λ (s : Said). eqb (s .key) key) ss + count (λ (u : Task). eqb (u .key) key && busy u) ts
+        (b : Bool) →
+        eqb (t′ .phase) 13 ≡ b →
+        count (λ (s : Said). eqb (s .key) key) (cond b (record { key = t′ .key; answer = t′ .answer } ∷ ss) ss)
+        + count (λ (u : Task). eqb (u .key) key && busy u) (set ts i t′)
+        ≡ count (λ (s : Said). eqb (s .key) key) ss + count (λ (u : Task). eqb (u .key) key && busy u) ts
     go true e =
         let none : bitOf (eqb (t′ .key) key && busy t′) ≡ 0 = ap (λ (b : Bool). bitOf (eqb (t′ .key) key && b)) (idle-done t′ (eqb-true (t′ .phase) 13 e)) ∙ ap bitOf (and-false (eqb (t′ .key) key)) in
         omega (arith, moved, old, ap bitOf mine)
@@ -172,33 +180,40 @@ answers-step key ts i t′ ss lt first before next-first after same = go (eqb (t
 
 -- a give to a task at rest
 pub give-tally :
-  (key : ℕ) (ts : List Task) (i : ℕ) (t′ : Task) →
-  i < length ts →
-  (taskAt ts i .phase ≡ 0) ⊎ (taskAt ts i .phase ≡ 13) →
-  t′ .phase ≡ 1 →
-  (timesLoaded key (set ts i t′) ≡ timesLoaded key ts)
-  × (timesBusy key (set ts i t′) ≡ timesBusy key ts + bitOf (eqb (t′ .key) key))
+    (key : ℕ) (ts : List Task) (i : ℕ) (t′ : Task) →
+    i < length ts →
+    (taskAt ts i .phase ≡ 0) ⊎ (taskAt ts i .phase ≡ 13) →
+    t′ .phase ≡ 1 →
+    (timesLoaded key (set ts i t′) ≡ timesLoaded key ts)
+    × (timesBusy key (set ts i t′) ≡ timesBusy key ts + bitOf (eqb (t′ .key) key))
 unfolding timesLoaded timesBusy
-give-tally key ts i t′ lt rest one =
-    (omega (arith, count-set (λ (u : Task). eqb (u .key) key && loaded u) ts i t′ noTask lt, light (loaded-rest rest), light′),
-    omega (arith, count-set (λ (u : Task). eqb (u .key) key && busy u) ts i t′ noTask lt, idle (busy-rest rest), new))
+give-tally key ts i t′ lt rest one = (
+  omega (arith, count-set (λ (u : Task). eqb (u .key) key && loaded u) ts i t′ noTask lt, light (loaded-rest rest), light′),
+  omega (arith, count-set (λ (u : Task). eqb (u .key) key && busy u) ts i t′ noTask lt, idle (busy-rest rest), new),
+)
   where
     t : Task
     t = taskAt ts i
+
     loaded-rest : (t .phase ≡ 0) ⊎ (t .phase ≡ 13) → loaded t ≡ false
     loaded-rest (inl e) = ap (λ (n : ℕ). within 9 10 n || (within 11 12 n && eqb (t .answer) 2)) e
     loaded-rest (inr e) = unloaded-done t e
+
     busy-rest : (t .phase ≡ 0) ⊎ (t .phase ≡ 13) → busy t ≡ false
     busy-rest (inl e) = idle-zero t e
     busy-rest (inr e) = idle-done t e
+
     light : loaded t ≡ false → bitOf (eqb (t .key) key && loaded t) ≡ 0
     light h = ap (λ (b : Bool). bitOf (eqb (t .key) key && b)) h ∙ ap bitOf (and-false (eqb (t .key) key))
+
     light′ : bitOf (eqb (t′ .key) key && loaded t′) ≡ 0
     light′ =
         ap (λ (n : ℕ). bitOf (eqb (t′ .key) key && (within 9 10 n || (within 11 12 n && eqb (t′ .answer) 2)))) one
         ∙ ap bitOf (and-false (eqb (t′ .key) key))
+
     idle : busy t ≡ false → bitOf (eqb (t .key) key && busy t) ≡ 0
     idle h = ap (λ (b : Bool). bitOf (eqb (t .key) key && b)) h ∙ ap bitOf (and-false (eqb (t .key) key))
+
     new : bitOf (eqb (t′ .key) key && busy t′) ≡ bitOf (eqb (t′ .key) key)
     new =
         ap (λ (b : Bool). bitOf (eqb (t′ .key) key && b)) (busy-is t′ (omega arith) (omega arith))
@@ -206,8 +221,8 @@ give-tally key ts i t′ lt rest one =
 
 -- at rest nothing is loaded and nobody is busy
 pub quiet-counts :
-  (key : ℕ) (ts : List Task) →
-  all atRest ts ≡ true → (timesLoaded key ts ≡ 0) × (timesBusy key ts ≡ 0)
+    (key : ℕ) (ts : List Task) →
+    all atRest ts ≡ true → (timesLoaded key ts ≡ 0) × (timesBusy key ts ≡ 0)
 unfolding timesLoaded timesBusy count all
 quiet-counts key [] rest = (refl, refl)
 quiet-counts key (t ∷ ts) rest =
@@ -222,6 +237,7 @@ quiet-counts key (t ∷ ts) rest =
     light (inr e) =
         ap (λ (n : ℕ). bitOf (eqb (t .key) key && (within 9 10 n || (within 11 12 n && eqb (t .answer) 2)))) e
         ∙ ap bitOf (and-false (eqb (t .key) key))
+
     idle : (t .phase ≡ 0) ⊎ (t .phase ≡ 13) → bitOf (eqb (t .key) key && busy t) ≡ 0
     idle (inl e) = ap (λ (b : Bool). bitOf (eqb (t .key) key && b)) (idle-zero t e) ∙ ap bitOf (and-false (eqb (t .key) key))
     idle (inr e) = ap (λ (b : Bool). bitOf (eqb (t .key) key && b)) (idle-done t e) ∙ ap bitOf (and-false (eqb (t .key) key))

@@ -39,7 +39,7 @@ afterGive w key (leaves a ts) =
       table = w .table;
       tasks = ts;
       given = cond (eqb (a .number) 0) (key ∷ w .given) (w .given);
-      said = w .said
+      said = w .said;
     }
 
 -- a task that becomes done has said its answer
@@ -50,10 +50,10 @@ afterStep w i (leaves a l) =
       tasks = l .tasks;
       given = w .given;
       said =
-        cond
-        (eqb (a .number) 0 && eqb (taskAt (l .tasks) i .phase) 13)
-        (record { key = taskAt (l .tasks) i .key; answer = taskAt (l .tasks) i .answer } ∷ w .said)
-        (w .said)
+          cond
+          (eqb (a .number) 0 && eqb (taskAt (l .tasks) i .phase) 13)
+          (record { key = taskAt (l .tasks) i .key; answer = taskAt (l .tasks) i .answer } ∷ w .said)
+          (w .said);
     }
 
 unfoldable pub act : ℕ → ℕ → World → Action → World
