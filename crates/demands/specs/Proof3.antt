@@ -82,7 +82,7 @@ split-within sh key lt =
     let i = split-in-shape sh key lt in
     record { above = omega (arith, i .home-low); low = i .remainder-low; inside = omega (arith, i .home-high) }
 
-all-within : (sh : Shape) (ks : List ℕ) → InKeys sh ks → All (Within (remainders sh) (rightGuard sh) 4096) (entriesOf sh ks)
+pub all-within : (sh : Shape) (ks : List ℕ) → InKeys sh ks → All (Within (remainders sh) (rightGuard sh) 4096) (entriesOf sh ks)
 unfolding all
 all-within sh [] h = perm.none
 all-within sh (k ∷ ks) h =
@@ -97,7 +97,7 @@ listed-split sh key [] = refl
 listed-split sh key (k ∷ ks) = ap₂ _||_ (sym (same-split sh key k)) (listed-split sh key ks)
 
 -- an entry that some keys have is the entry of a key in range
-held-key :
+pub held-key :
     (sh : Shape) (ks : List ℕ) (x : Entry) →
     remainders sh ≤ 4096 →
     InKeys sh ks → holds x (entriesOf sh ks) ≡ true → (split sh (join sh x) ≡ x) × (join sh x < keys sh)
@@ -146,7 +146,7 @@ ascend-keys sh ks js s h k alike =
 
 -- ---- build
 -- at most as many distinct keys as homes: a table has room for them
-keys-roomy : (sh : Shape) (ks : List ℕ) → remainders sh ≤ 4096 → InKeys sh ks → distinct sh ks ≤ homes sh → Roomy sh (ascend (entriesOf sh ks))
+pub keys-roomy : (sh : Shape) (ks : List ℕ) → remainders sh ≤ 4096 → InKeys sh ks → distinct sh ks ≤ homes sh → Roomy sh (ascend (entriesOf sh ks))
 unfolding distinct
 keys-roomy sh ks s h few = record { low = s; asc = ascend-asc s (all-within sh ks h); few = few }
 
@@ -291,7 +291,7 @@ build-ignores m r bytes others ks long good h =
     ∙ sym (build-by m r others ks (sym (ap (goodTable (shapeOf m r)) long) ∙ good) h)
 
 -- a list's keys are in range
-ascending-keys : (sh : Shape) {b : ℕ} {ks : List ℕ} → Ascending (keys sh) b ks → InKeys sh ks
+pub ascending-keys : (sh : Shape) {b : ℕ} {ks : List ℕ} → Ascending (keys sh) b ks → InKeys sh ks
 unfolding all
 ascending-keys sh ascending-none = refl
 ascending-keys sh (ascending-next {k = k} a lt up) = and-both _ _ (lt-ltb k (keys sh) lt) (ascending-keys sh up)
@@ -351,7 +351,7 @@ put-plain {m} {r} {bytes} t key lt =
               ∙ sym (ap (wordsAfter (wordsOf bytes)) e);
         }
 
-put-all-plain :
+pub put-all-plain :
     {m r : ℕ} {bytes : List ℕ} (ks : List ℕ) →
     PlainTable m r bytes →
     InKeys (shapeOf m r) ks →
@@ -366,11 +366,11 @@ put-all-plain {m} {r} {bytes} (key ∷ ks) t h =
     (rest .0, rest .1 ∙ ap (λ (ws : List Word). puts (shapeOf m r) ws (entriesOf (shapeOf m r) ks)) (one .words))
 
 -- ---- puts in any order
-map-both : (sh : Shape) (ks js : List ℕ) → entriesOf sh (ks ++ js) ≡ entriesOf sh ks ++ entriesOf sh js
+pub map-both : (sh : Shape) (ks js : List ℕ) → entriesOf sh (ks ++ js) ≡ entriesOf sh ks ++ entriesOf sh js
 map-both sh [] js = refl
 map-both sh (k ∷ ks) js = ap (λ (es : List Entry). split sh k ∷ es) (map-both sh ks js)
 
-all-both : (sh : Shape) (ks js : List ℕ) → InKeys sh ks → InKeys sh js → InKeys sh (ks ++ js)
+pub all-both : (sh : Shape) (ks js : List ℕ) → InKeys sh ks → InKeys sh js → InKeys sh (ks ++ js)
 unfolding all
 all-both sh [] js h k = k
 all-both sh (x ∷ ks) js h k =

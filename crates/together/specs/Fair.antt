@@ -115,13 +115,13 @@ unlocked-at (w ∷ ws) (suc p) free = unlocked-at ws p (go (w .lock) free)
     go true h = absurd (true≢false h)
     go false h = h
 
-rest-at : (ts : List Task) (i : ℕ) → i < length ts → all atRest ts ≡ true → (taskAt ts i .phase ≡ 0) ⊎ (taskAt ts i .phase ≡ 13)
+pub rest-at : (ts : List Task) (i : ℕ) → i < length ts → all atRest ts ≡ true → (taskAt ts i .phase ≡ 0) ⊎ (taskAt ts i .phase ≡ 13)
 unfolding all
 rest-at [] i lt h = absurd (omega arith)
 rest-at (t ∷ ts) zero lt h = rest-phase t (and-left (atRest t) _ h)
 rest-at (t ∷ ts) (suc i) lt h = rest-at ts i (omega arith) (and-right (atRest t) _ h)
 
-rest-owns : (t : Task) (p : ℕ) → (t .phase ≡ 0) ⊎ (t .phase ≡ 13) → Owns t p → ⊥
+pub rest-owns : (t : Task) (p : ℕ) → (t .phase ≡ 0) ⊎ (t .phase ≡ 13) → Owns t p → ⊥
 rest-owns t p (inl e) (by-left a b c) = omega arith
 rest-owns t p (inr e) (by-left a b c) = omega arith
 rest-owns t p (inl e) (by-right a b c) = omega arith

@@ -16,3 +16,4 @@ pub mod Course
 pub mod Machine
 pub mod History
 pub mod Fair
+pub mod Rest
