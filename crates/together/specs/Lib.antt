@@ -17,3 +17,4 @@ pub mod Machine
 pub mod History
 pub mod Fair
 pub mod Rest
+pub mod Demand3

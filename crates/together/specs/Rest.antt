@@ -38,7 +38,7 @@ use Rattle.demands.specs.Proof2.{same-split, split-keys, in-shape, listed-here,
 use Rattle.demands.specs.Proof3.{listed-split, held-key, keys-roomy, all-both, map-both, put-all-plain, ascending-keys, all-within}
 use Rattle.demands.specs.Demand2.{puts-any-order}
 use Rattle.together.specs.Invariant.{Owns, Unfinished, Inv}
-use Rattle.together.specs.Facts.{words-size}
+use Rattle.together.specs.Facts.{words-size, in-order}
 use Rattle.together.specs.Machine.{Said, World, timesGiven, timesSaid, timesInserted}
 use Rattle.together.specs.History.{quiet-counts}
 use Rattle.together.specs.Fair.{Means, means-full, means-shown, Spacious, NoneFull, Fair, rest-at, rest-owns}
@@ -62,6 +62,39 @@ listed-times key (k ∷ ks) h = go (eqb key k) h (listed-times key ks)
     go : (b : Bool) → (b || listed key ks) ≡ true → (listed key ks ≡ true → 1 ≤ timesGiven key ks) → 1 ≤ bitOf b + timesGiven key ks
     go true h more = omega arith
     go false h more = omega (arith, more h)
+
+-- and a key that occurs is in the list
+times-listed : (key : ℕ) (ks : List ℕ) → 1 ≤ timesGiven key ks → listed key ks ≡ true
+unfolding listed any timesGiven count
+times-listed key [] h = absurd (omega arith)
+times-listed key (k ∷ ks) h = go (eqb key k) h (times-listed key ks)
+  where
+    go : (b : Bool) → 1 ≤ bitOf b + timesGiven key ks → (1 ≤ timesGiven key ks → listed key ks ≡ true) → (b || listed key ks) ≡ true
+    go true h more = refl
+    go false h more = more (omega arith)
+
+-- a key of a list of keys in range is in range
+listed-in-keys : (sh : Shape) (key : ℕ) (ks : List ℕ) → InKeys sh ks → listed key ks ≡ true → key < keys sh
+unfolding listed any all
+listed-in-keys sh key [] h k = absurd (false≢true k)
+listed-in-keys sh key (j ∷ ks) h k =
+    go (eqb key j) refl k (listed-in-keys sh key ks (and-right (ltb j (keys sh)) _ h))
+  where
+    go : (b : Bool) → eqb key j ≡ b → (b || listed key ks) ≡ true → (listed key ks ≡ true → key < keys sh) → key < keys sh
+    go true e k more =
+        omega (arith, eqb-true key j e, ltb-true j (keys sh) (and-left (ltb j (keys sh)) _ h))
+    go false e k more = more k
+
+-- answers inserted are answers
+inserted-said : (key : ℕ) (ss : List Said) → timesInserted key ss ≤ timesSaid key ss
+unfolding timesInserted timesSaid count
+inserted-said key [] = omega arith
+inserted-said key (s ∷ ss) = omega (arith, inserted-said key ss, fewer (eqb (s .key) key) (eqb (s .answer) 2))
+  where
+    fewer : (a b : Bool) → bitOf (a && b) ≤ bitOf a
+    fewer true true = omega arith
+    fewer true false = omega arith
+    fewer false b = omega arith
 
 -- a key that was answered, and not full, is shown
 said-shown :
@@ -139,12 +172,14 @@ module _ {m r : ℕ} {start : List ℕ} {w : World} (t : PlainTable m r start) (
   shows : entries (wordsOf (w .table)) ≡ f .shown
   shows = ap entries words-laid ∙ table-entries (shapeOf m r) low (f .inv .plain .table)
 
-  -- a key is listed once for each reason: it was there, or it was answered inserted
-  pub rest-tally :
+  pub rest-answers : (x : ℕ) → timesSaid x (w .said) ≡ timesGiven x (w .given)
+  rest-answers x = omega (arith, f .answers x, quiet-counts x (w .tasks) rest .1)
+
+  inside-tally :
       (x : ℕ) →
       x < keys (shapeOf m r) →
       bitOf (listed x (listOf m r start)) + timesInserted x (w .said) ≡ bitOf (listed x (listOf m r (w .table)))
-  rest-tally x lt =
+  inside-tally x lt =
       omega (
         arith,
         f .tally x,
@@ -153,8 +188,46 @@ module _ {m r : ℕ} {start : List ℕ} {w : World} (t : PlainTable m r start) (
         ap bitOf (listed-here (rest-plain .whole) x lt ∙ ap (holds (split (shapeOf m r) x)) shows),
       )
 
-  pub rest-answers : (x : ℕ) → timesSaid x (w .said) ≡ timesGiven x (w .given)
-  rest-answers x = omega (arith, f .answers x, quiet-counts x (w .tasks) rest .1)
+  unlisted : {bytes : List ℕ} (x : ℕ) → SoundTable m r bytes → keys (shapeOf m r) ≤ x → listed x (listOf m r bytes) ≡ false
+  unlisted {bytes} x u le = go (listed x (listOf m r bytes)) refl
+    where
+      go : (b : Bool) → listed x (listOf m r bytes) ≡ b → b ≡ false
+      go true e =
+          absurd
+          (omega (
+            arith,
+            listed-in-keys (shapeOf m r) x (listOf m r bytes) (ascending-keys (shapeOf m r) (ascending-list u)) e,
+          ))
+      go false e = refl
+
+  never-inserted : (x : ℕ) → keys (shapeOf m r) ≤ x → timesInserted x (w .said) ≡ 0
+  never-inserted x le = go (listed x (w .given)) refl
+    where
+      go : (b : Bool) → listed x (w .given) ≡ b → timesInserted x (w .said) ≡ 0
+      go true e = absurd (omega (arith, listed-in-keys (shapeOf m r) x (w .given) (f .in-keys) e))
+      go false e = none (in-order (timesGiven x (w .given)) 0)
+        where
+          none : (timesGiven x (w .given) ≤ 0) ⊎ (0 < timesGiven x (w .given)) → timesInserted x (w .said) ≡ 0
+          none (inl z) = omega (arith, inserted-said x (w .said), rest-answers x)
+          none (inr z) = absurd (true≢false (sym (times-listed x (w .given) (omega arith)) ∙ e))
+
+  -- a key is listed once for each reason: it was there, or it was answered inserted
+  pub rest-tally :
+      (x : ℕ) →
+      bitOf (listed x (listOf m r start)) + timesInserted x (w .said) ≡ bitOf (listed x (listOf m r (w .table)))
+  rest-tally x = go (in-order (keys (shapeOf m r)) x)
+    where
+      go :
+          (keys (shapeOf m r) ≤ x) ⊎ (x < keys (shapeOf m r)) →
+          bitOf (listed x (listOf m r start)) + timesInserted x (w .said) ≡ bitOf (listed x (listOf m r (w .table)))
+      go (inl le) =
+          omega (
+            arith,
+            ap bitOf (unlisted x (t .whole) le),
+            ap bitOf (unlisted x (rest-plain .whole) le),
+            never-inserted x le,
+          )
+      go (inr lt) = inside-tally x lt
 
   -- ---- with room for all
   module _ (few : distinct (shapeOf m r) (listOf m r start ++ w .given) ≤ homes (shapeOf m r)) where
@@ -191,8 +264,9 @@ module _ {m r : ℕ} {start : List ℕ} {w : World} (t : PlainTable m r start) (
     given-shown x h =
         said-shown x (w .said) (f .meaning) rest-none-full (omega (arith, rest-answers x, listed-times x (w .given) h))
 
-    pub rest-listed : (x : ℕ) → x < keys (shapeOf m r) → listed x (w .given) ≡ true → listed x (listOf m r (w .table)) ≡ true
-    rest-listed x lt h =
+    pub rest-listed : (x : ℕ) → listed x (w .given) ≡ true → listed x (listOf m r (w .table)) ≡ true
+    rest-listed x h =
+        let lt = listed-in-keys (shapeOf m r) x (w .given) (f .in-keys) h in
         listed-here (rest-plain .whole) x lt ∙ ap (holds (split (shapeOf m r) x)) shows ∙ given-shown x h
 
     pub rest-found-or-inserted : All (λ (s : Said). (s .answer ≡ 1) ⊎ (s .answer ≡ 2)) (w .said)
