@@ -73,7 +73,7 @@ table-small {ws = ws} {es} s t p =
     (ap (λ (vs : List Word). at vs p .remainder) (table-lay s t) ∙ ap (λ (w : Word). w .remainder) (at-unlock ws p))
     (lay-small es 0 (occupied ws) p (perm.all-map (λ e w. omega (arith, w .low)) (asc-all (table-asc s t))))
 
-bytes-small : (ws : List Word) → ((p : ℕ) → at ws p .remainder < 4096) → (i : ℕ) → getD (bytesOf ws) i 0 < 256
+pub bytes-small : (ws : List Word) → ((p : ℕ) → at ws p .remainder < 4096) → (i : ℕ) → getD (bytesOf ws) i 0 < 256
 unfolding bytesOf
 bytes-small [] small i = omega arith
 bytes-small (w ∷ ws) small zero = omega arith

@@ -91,7 +91,7 @@ all-within sh (k ∷ ks) h =
     (all-within sh ks (and-right (ltb k (keys sh)) _ h))
 
 -- a key is among some exactly if its entry is among theirs
-listed-split : (sh : Shape) (key : ℕ) (ks : List ℕ) → listed key ks ≡ holds (split sh key) (entriesOf sh ks)
+pub listed-split : (sh : Shape) (key : ℕ) (ks : List ℕ) → listed key ks ≡ holds (split sh key) (entriesOf sh ks)
 unfolding listed holds any
 listed-split sh key [] = refl
 listed-split sh key (k ∷ ks) = ap₂ _||_ (sym (same-split sh key k)) (listed-split sh key ks)

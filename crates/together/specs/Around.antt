@@ -44,17 +44,17 @@ pub record Around (sh : Shape) (ws laid : List Word) (shown : List Entry) (t : T
   pub same : holds (split sh (t .key)) (entriesBetween laid (t .left) (t .right)) ≡ holds (split sh (t .key)) shown
 
 pub around :
-  {sh : Shape} {ws : List Word} {ts : List Task} {laid : List Word} {shown : List Entry} →
-  remainders sh ≤ 4096 →
-  Inv sh ws ts laid shown →
-  (i : ℕ) →
-  i < length ts →
-  7 ≤ taskAt ts i .phase →
-  taskAt ts i .phase ≤ 8 →
-  taskAt ts i .key < keys sh →
-  Looked sh ws (taskAt ts i) →
-  at ws (taskAt ts i .left) ≡ lockWord →
-  at ws (taskAt ts i .right) ≡ lockWord → Around sh ws laid shown (taskAt ts i)
+    {sh : Shape} {ws : List Word} {ts : List Task} {laid : List Word} {shown : List Entry} →
+    remainders sh ≤ 4096 →
+    Inv sh ws ts laid shown →
+    (i : ℕ) →
+    i < length ts →
+    7 ≤ taskAt ts i .phase →
+    taskAt ts i .phase ≤ 8 →
+    taskAt ts i .key < keys sh →
+    Looked sh ws (taskAt ts i) →
+    at ws (taskAt ts i .left) ≡ lockWord →
+    at ws (taskAt ts i .right) ≡ lockWord → Around sh ws laid shown (taskAt ts i)
 unfolding homePlace places rightGuard cluster clusterEntries entriesBetween
 around {sh} {ws} {ts} {laid} {shown} low inv i lt from-7 to-8 k x left-held right-held =
     record {
@@ -63,25 +63,28 @@ around {sh} {ws} {ts} {laid} {shown} low inv i lt from-7 to-8 k x left-held righ
       right = right-is;
       taken = between-occupied ws (t .left) (t .right) (omega (arith, words-size low inv, x .inside)) (λ q a b. occupied-at ws q ∙ between-taken x q a b);
       sound =
-        sym (sound-run-unlock sh (between ws (t .left) (t .right)))
-        ∙ ap (soundRun sh) run-same
-        ∙ ap₂ (λ (l r : ℕ). soundRun sh (between laid l r)) (sym left-is) (sym right-is)
-        ∙ sound-around sh laid h (look .sound) .run;
+          sym (sound-run-unlock sh (between ws (t .left) (t .right)))
+          ∙ ap (soundRun sh) run-same
+          ∙ ap₂ (λ (l r : ℕ). soundRun sh (between laid l r)) (sym left-is) (sym right-is)
+          ∙ sound-around sh laid h (look .sound) .run;
       entries =
-        sym
-        (ap (λ (hs : List ℕ). deal hs (map unlock (between ws (t .left) (t .right)))) (virgin-unlock (suc (t .left)) (between ws (t .left) (t .right)))
-        ∙ deal-unlock (virginPlaces (suc (t .left)) (between ws (t .left) (t .right))) (between ws (t .left) (t .right)))
-        ∙ ap (λ (vs : List Word). deal (virginPlaces (suc (t .left)) vs) vs) run-same;
+          sym
+          (ap (λ (hs : List ℕ). deal hs (map unlock (between ws (t .left) (t .right)))) (virgin-unlock (suc (t .left)) (between ws (t .left) (t .right)))
+          ∙ deal-unlock (virginPlaces (suc (t .left)) (between ws (t .left) (t .right))) (between ws (t .left) (t .right)))
+          ∙ ap (λ (vs : List Word). deal (virginPlaces (suc (t .left)) vs) vs) run-same;
       same =
-        ap₂ (λ (l r : ℕ). holds (split sh (t .key)) (entriesBetween laid l r)) (sym left-is) (sym right-is) ∙ look .same
+          ap₂ (λ (l r : ℕ). holds (split sh (t .key)) (entriesBetween laid l r)) (sym left-is) (sym right-is) ∙ look .same;
     }
   where
     t : Task
     t = taskAt ts i
+
     h : ℕ
     h = split sh (t .key) .home
+
     home : HomePlace sh h
     home = let s = split-in-shape sh (t .key) k in record { first = s .home-low; last = s .home-high }
+
     look : Surroundings sh laid shown (split sh (t .key))
     look =
         surroundings
@@ -92,13 +95,17 @@ around {sh} {ws} {ts} {laid} {shown} low inv i lt from-7 to-8 k x left-held righ
         home
         (split-in-shape sh (t .key) k .remainder-low)
         (inv .plain .table)
+
     taken-laid : (q : ℕ) → t .left < q → q < t .right → gaps.Taken (occupied laid) q
     taken-laid q a b = occupied-at laid q ∙ occupied-same laid ws q (sym (inv .places)) ∙ between-taken x q a b
+
     free-laid : (q : ℕ) → at ws q ≡ lockWord → gaps.Free (occupied laid) q
     free-laid q e =
         occupied-at laid q ∙ occupied-same laid ws q (sym (inv .places)) ∙ ap (λ (w : Word). w .occupied) e
+
     origin : gaps.Free (occupied laid) 0
     origin = subst (λ (os : List Bool). gaps.Free os 0) (inv .places) (guards-free low inv .left)
+
     left-is : leftGap (occupied laid) h ≡ t .left
     left-is =
         gap-only
@@ -107,8 +114,9 @@ around {sh} {ws} {ts} {laid} {shown} low inv i lt from-7 to-8 k x left-held righ
         (record {
           side = omega (arith, x .leftward .below);
           free = free-laid (t .left) left-held;
-          run = λ q a b n. taken-laid q (omega (arith, n)) (omega (arith, x .above))
+          run = λ q a b n. taken-laid q (omega (arith, n)) (omega (arith, x .above));
         })
+
     right-is : rightGap (occupied laid) h ≡ t .right
     right-is =
         gap-only
@@ -117,8 +125,9 @@ around {sh} {ws} {ts} {laid} {shown} low inv i lt from-7 to-8 k x left-held righ
         (record {
           side = omega (arith, x .above);
           free = free-laid (t .right) right-held;
-          run = λ q a b n. taken-laid q (omega (arith, x .leftward .below)) (omega (arith, n))
+          run = λ q a b n. taken-laid q (omega (arith, x .leftward .below)) (omega (arith, n));
         })
+
     run-same : map unlock (between ws (t .left) (t .right)) ≡ between laid (t .left) (t .right)
     run-same =
         sym (between-unlock ws (t .left) (t .right))

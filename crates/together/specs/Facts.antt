@@ -46,10 +46,10 @@ unfinished? : (t : Task) (p : ℕ) → Unfinished t p ⊎ (Unfinished t p → �
 unfinished? t p = go (in-order 9 (t .phase)) (in-order (t .phase) 10) (in-order (t .left) p) (in-order p (t .right))
   where
     go :
-      (9 ≤ t .phase) ⊎ (t .phase < 9) →
-      (t .phase ≤ 10) ⊎ (10 < t .phase) →
-      (t .left ≤ p) ⊎ (p < t .left) →
-      (p ≤ t .right) ⊎ (t .right < p) → Unfinished t p ⊎ (Unfinished t p → ⊥)
+        (9 ≤ t .phase) ⊎ (t .phase < 9) →
+        (t .phase ≤ 10) ⊎ (10 < t .phase) →
+        (t .left ≤ p) ⊎ (p < t .left) →
+        (p ≤ t .right) ⊎ (t .right < p) → Unfinished t p ⊎ (Unfinished t p → ⊥)
     go (inl a) (inl b) (inl c) (inl d) = inl (record { from-9 = a; to-10 = b; inside = (c, d) })
     go (inr a) b c d = inr (λ (u : Unfinished t p). omega (arith, u .from-9))
     go (inl a) (inr b) c d = inr (λ (u : Unfinished t p). omega (arith, u .to-10))
@@ -58,15 +58,15 @@ unfinished? t p = go (in-order 9 (t .phase)) (in-order (t .phase) 10) (in-order 
 
 -- among the first n tasks
 unfinished-among :
-  (ts : List Task) (p n : ℕ) →
-  ((i : ℕ) × (i < n) × Unfinished (taskAt ts i) p) ⊎ ((i : ℕ) → i < n → Unfinished (taskAt ts i) p → ⊥)
+    (ts : List Task) (p n : ℕ) →
+    ((i : ℕ) × (i < n) × Unfinished (taskAt ts i) p) ⊎ ((i : ℕ) → i < n → Unfinished (taskAt ts i) p → ⊥)
 unfinished-among ts p zero = inr (λ i lt u. omega arith)
 unfinished-among ts p (suc n) = go (unfinished-among ts p n) (unfinished? (taskAt ts n) p)
   where
     go :
-      ((i : ℕ) × (i < n) × Unfinished (taskAt ts i) p) ⊎ ((i : ℕ) → i < n → Unfinished (taskAt ts i) p → ⊥) →
-      Unfinished (taskAt ts n) p ⊎ (Unfinished (taskAt ts n) p → ⊥) →
-      ((i : ℕ) × (i < suc n) × Unfinished (taskAt ts i) p) ⊎ ((i : ℕ) → i < suc n → Unfinished (taskAt ts i) p → ⊥)
+        ((i : ℕ) × (i < n) × Unfinished (taskAt ts i) p) ⊎ ((i : ℕ) → i < n → Unfinished (taskAt ts i) p → ⊥) →
+        Unfinished (taskAt ts n) p ⊎ (Unfinished (taskAt ts n) p → ⊥) →
+        ((i : ℕ) × (i < suc n) × Unfinished (taskAt ts i) p) ⊎ ((i : ℕ) → i < suc n → Unfinished (taskAt ts i) p → ⊥)
     go (inl x) y = inl (x .0, omega (arith, x .1), x .2)
     go (inr x) (inl y) = inl (n, omega arith, y)
     go (inr x) (inr y) = inr (λ i lt u. last i lt u (same-or-not n i))
@@ -77,8 +77,8 @@ unfinished-among ts p (suc n) = go (unfinished-among ts p n) (unfinished? (taskA
 
 -- ---- the words laid
 lay-void :
-  (whole : List Entry) (q : ℕ) (os : List Bool) (es : List Entry) (p : ℕ) →
-  getD os p false ≡ false → at (lay whole q os es) p ≡ zeroWord
+    (whole : List Entry) (q : ℕ) (os : List Bool) (es : List Entry) (p : ℕ) →
+    getD os p false ≡ false → at (lay whole q os es) p ≡ zeroWord
 unfolding lay
 lay-void whole q [] es p free = refl
 lay-void whole q (false ∷ os) es zero free = refl
@@ -89,8 +89,8 @@ lay-void whole q (true ∷ os) (e ∷ es) (suc p) free = lay-void whole (suc q) 
 
 -- an unoccupied place of a plain table is 0
 pub plain-void :
-  {sh : Shape} {laid : List Word} {shown : List Entry} (p : ℕ) →
-  State sh laid shown → remainders sh ≤ 4096 → at laid p .occupied ≡ false → at laid p ≡ zeroWord
+    {sh : Shape} {laid : List Word} {shown : List Entry} (p : ℕ) →
+    State sh laid shown → remainders sh ≤ 4096 → at laid p .occupied ≡ false → at laid p ≡ zeroWord
 plain-void {sh} {laid} {shown} p s low free =
     ap (λ (ws : List Word). at ws p) (sym (unlocked-same laid (s .free)) ∙ sym (table-lay low (s .table)))
     ∙ lay-void shown 0 (occupied laid) shown p (occupied-at laid p ∙ free)
@@ -103,7 +103,7 @@ void-of w e = ap isVoid e
 -- ---- one task
 -- all places strictly between its ends are occupied
 pub between-taken :
-  {sh : Shape} {ws : List Word} {t : Task} → Looked sh ws t → (q : ℕ) → t .left < q → q < t .right → Occupied ws q
+    {sh : Shape} {ws : List Word} {t : Task} → Looked sh ws t → (q : ℕ) → t .left < q → q < t .right → Occupied ws q
 between-taken {sh} {ws} {t} x q low high = go (in-order q (homePlace sh t))
   where
     go : (q ≤ homePlace sh t) ⊎ (homePlace sh t < q) → Occupied ws q
@@ -116,8 +116,8 @@ pub record Moves (sh : Shape) (ws laid : List Word) (shown : List Entry) (t : Ta
   pub moving : Moving sh ws laid shown t
 
 pub unfinished-moves :
-  {sh : Shape} {ws laid : List Word} {shown : List Entry} {t : Task} →
-  9 ≤ t .phase → t .phase ≤ 10 → Stage sh ws laid shown t → Moves sh ws laid shown t
+    {sh : Shape} {ws laid : List Word} {shown : List Entry} {t : Task} →
+    9 ≤ t .phase → t .phase ≤ 10 → Stage sh ws laid shown t → Moves sh ws laid shown t
 unfinished-moves a b (at-rest (inl e)) = absurd (omega arith)
 unfinished-moves a b (at-rest (inr e)) = absurd (omega arith)
 unfinished-moves a b (at-home e k) = absurd (omega arith)
@@ -132,83 +132,85 @@ unfinished-moves a b (frees-left e k x y) = absurd (omega arith)
 unfinished-moves a b (frees-right e k x y) = absurd (omega arith)
 
 module _ {sh : Shape} {ws : List Word} {ts : List Task} {laid : List Word} {shown : List Entry}
-  (low : remainders sh ≤ 4096) (inv : Inv sh ws ts laid shown)
+    (low : remainders sh ≤ 4096) (inv : Inv sh ws ts laid shown)
   where
-  pub words-size : length ws ≡ places sh
-  words-size =
-      sym (occupied-length ws) ∙ ap length (inv .places) ∙ occupied-length laid ∙ inv .plain .size
+    pub words-size : length ws ≡ places sh
+    words-size =
+        sym (occupied-length ws) ∙ ap length (inv .places) ∙ occupied-length laid ∙ inv .plain .size
 
-  -- an unoccupied place inside a stretch that is being moved is its unfilled end
-  unfinished-free :
-    (t : Task) (p : ℕ) →
-    Unfinished t p → Stage sh ws laid shown t → at ws p .occupied ≡ false → at ws p ≡ lockWord
-  unfinished-free t p u stage free = go m (m .moving .side) refl (same-or-not (t .left) p) (same-or-not (t .right) p)
-    where
-      m : Moves sh ws laid shown t
-      m = unfinished-moves (u .from-9) (u .to-10) stage
-      never : at ws p .occupied ≡ true → at ws p ≡ lockWord
-      never taken = absurd (true≢false (sym taken ∙ free))
-      go :
-        (m : Moves sh ws laid shown t) (side : Side) →
-        m .moving .side ≡ side → (p ≡ t .left) ⊎ (p ≢ t .left) → (p ≡ t .right) ⊎ (p ≢ t .right) → at ws p ≡ lockWord
-      go m side e (inr a) (inr b) = never (between-taken (m .looked) p (omega (arith, u .inside)) (omega (arith, u .inside)))
-      go m gaps.left e (inl a) b =
-          never
-          (ap (λ (q : ℕ). at ws q .occupied) (a ∙ ap (λ (s : Side). end s (t .left) (t .right)) (sym e))
-          ∙ m .moving .filled .taken)
-      go m gaps.left e (inr a) (inl b) =
-          ap (at ws) (b ∙ ap (λ (s : Side). end (other s) (t .left) (t .right)) (sym e)) ∙ m .moving .waiting
-      go m gaps.right e (inl a) b =
-          ap (at ws) (a ∙ ap (λ (s : Side). end (other s) (t .left) (t .right)) (sym e)) ∙ m .moving .waiting
-      go m gaps.right e (inr a) (inl b) =
-          never
-          (ap (λ (q : ℕ). at ws q .occupied) (b ∙ ap (λ (s : Side). end s (t .left) (t .right)) (sym e))
-          ∙ m .moving .filled .taken)
+    -- an unoccupied place inside a stretch that is being moved is its unfilled end
+    unfinished-free :
+        (t : Task) (p : ℕ) →
+        Unfinished t p → Stage sh ws laid shown t → at ws p .occupied ≡ false → at ws p ≡ lockWord
+    unfinished-free t p u stage free = go m (m .moving .side) refl (same-or-not (t .left) p) (same-or-not (t .right) p)
+      where
+        m : Moves sh ws laid shown t
+        m = unfinished-moves (u .from-9) (u .to-10) stage
 
-  -- an unoccupied word is 0, lock bit aside
-  pub free-void : (p : ℕ) → at ws p .occupied ≡ false → unlock (at ws p) ≡ zeroWord
-  free-void p free = go (unfinished-among ts p (length ts))
-    where
-      go :
-        ((i : ℕ) × (i < length ts) × Unfinished (taskAt ts i) p)
-        ⊎ ((i : ℕ) → i < length ts → Unfinished (taskAt ts i) p → ⊥) →
-        unlock (at ws p) ≡ zeroWord
-      go (inl x) = ap unlock (unfinished-free (taskAt ts (x .0)) p (x .2) (inv .stage (x .0) (x .1)) free)
-      go (inr none) =
-          inv .settled p none ∙ plain-void p (inv .plain) low (occupied-same laid ws p (sym (inv .places)) ∙ free)
+        never : at ws p .occupied ≡ true → at ws p ≡ lockWord
+        never taken = absurd (true≢false (sym taken ∙ free))
 
-  pub guards-free : Guarded sh (occupied ws)
-  guards-free = subst (Guarded sh) (sym (inv .places)) (table-guarded sh (inv .plain .size) (inv .plain .table))
+        go :
+            (m : Moves sh ws laid shown t) (side : Side) →
+            m .moving .side ≡ side → (p ≡ t .left) ⊎ (p ≢ t .left) → (p ≡ t .right) ⊎ (p ≢ t .right) → at ws p ≡ lockWord
+        go m side e (inr a) (inr b) = never (between-taken (m .looked) p (omega (arith, u .inside)) (omega (arith, u .inside)))
+        go m gaps.left e (inl a) b =
+            never
+            (ap (λ (q : ℕ). at ws q .occupied) (a ∙ ap (λ (s : Side). end s (t .left) (t .right)) (sym e))
+            ∙ m .moving .filled .taken)
+        go m gaps.left e (inr a) (inl b) =
+            ap (at ws) (b ∙ ap (λ (s : Side). end (other s) (t .left) (t .right)) (sym e)) ∙ m .moving .waiting
+        go m gaps.right e (inl a) b =
+            ap (at ws) (a ∙ ap (λ (s : Side). end (other s) (t .left) (t .right)) (sym e)) ∙ m .moving .waiting
+        go m gaps.right e (inr a) (inl b) =
+            never
+            (ap (λ (q : ℕ). at ws q .occupied) (b ∙ ap (λ (s : Side). end s (t .left) (t .right)) (sym e))
+            ∙ m .moving .filled .taken)
 
-  pub guards-void : guardsVoid sh ws ≡ true
-  unfolding guardsVoid
-  guards-void =
-      and-both
-      _
-      _
-      (void-of _ (free-void 0 (sym (occupied-at ws 0) ∙ guards-free .left)))
-      (void-of _ (free-void (rightGuard sh) (sym (occupied-at ws (rightGuard sh)) ∙ guards-free .right)))
+    -- an unoccupied word is 0, lock bit aside
+    pub free-void : (p : ℕ) → at ws p .occupied ≡ false → unlock (at ws p) ≡ zeroWord
+    free-void p free = go (unfinished-among ts p (length ts))
+      where
+        go :
+            ((i : ℕ) × (i < length ts) × Unfinished (taskAt ts i) p)
+            ⊎ ((i : ℕ) → i < length ts → Unfinished (taskAt ts i) p → ⊥) →
+            unlock (at ws p) ≡ zeroWord
+        go (inl x) = ap unlock (unfinished-free (taskAt ts (x .0)) p (x .2) (inv .stage (x .0) (x .1)) free)
+        go (inr none) =
+            inv .settled p none ∙ plain-void p (inv .plain) low (occupied-same laid ws p (sym (inv .places)) ∙ free)
 
-  -- the words that a task reserves and does not move are those laid
-  pub reserved-laid :
-    (i : ℕ) →
-    i < length ts →
-    7 ≤ taskAt ts i .phase →
-    taskAt ts i .phase ≤ 8 →
-    (p : ℕ) → Within (taskAt ts i .left) (taskAt ts i .right) p → unlock (at ws p) ≡ at laid p
-  reserved-laid i lt from-7 to-8 p near = inv .settled p (λ j l u. none j l u (same-or-not i j))
-    where
-      none : (j : ℕ) → j < length ts → Unfinished (taskAt ts j) p → (j ≡ i) ⊎ (j ≢ i) → ⊥
-      none j l u (inl e) =
-          let v = subst (λ (k : ℕ). Unfinished (taskAt ts k) p) e u in
-          omega (arith, v .from-9)
-      none j l u (inr n) =
-          inv .apart i j lt l (λ e. n (sym e)) .stretches
-          (record { from-7 = from-7; to-10 = omega arith })
-          (record { from-7 = omega (arith, u .from-9); to-10 = u .to-10 })
-          p
-          near
-          (u .inside)
+    pub guards-free : Guarded sh (occupied ws)
+    guards-free = subst (Guarded sh) (sym (inv .places)) (table-guarded sh (inv .plain .size) (inv .plain .table))
+
+    pub guards-void : guardsVoid sh ws ≡ true
+    unfolding guardsVoid
+    guards-void =
+        and-both
+        _
+        _
+        (void-of _ (free-void 0 (sym (occupied-at ws 0) ∙ guards-free .left)))
+        (void-of _ (free-void (rightGuard sh) (sym (occupied-at ws (rightGuard sh)) ∙ guards-free .right)))
+
+    -- the words that a task reserves and does not move are those laid
+    pub reserved-laid :
+        (i : ℕ) →
+        i < length ts →
+        7 ≤ taskAt ts i .phase →
+        taskAt ts i .phase ≤ 8 →
+        (p : ℕ) → Within (taskAt ts i .left) (taskAt ts i .right) p → unlock (at ws p) ≡ at laid p
+    reserved-laid i lt from-7 to-8 p near = inv .settled p (λ j l u. none j l u (same-or-not i j))
+      where
+        none : (j : ℕ) → j < length ts → Unfinished (taskAt ts j) p → (j ≡ i) ⊎ (j ≢ i) → ⊥
+        none j l u (inl e) =
+            let v = subst (λ (k : ℕ). Unfinished (taskAt ts k) p) e u in
+            omega (arith, v .from-9)
+        none j l u (inr n) =
+            inv .apart i j lt l (λ e. n (sym e)) .stretches
+            (record { from-7 = from-7; to-10 = omega arith })
+            (record { from-7 = omega (arith, u .from-9); to-10 = u .to-10 })
+            p
+            near
+            (u .inside)
 
 -- ---- each record fits
 implied : (a b : Bool) → (a ≡ true → b ≡ true) → implies a b ≡ true

@@ -45,14 +45,14 @@ deal-length hs [] = refl
 deal-length hs (w ∷ ws) = ap suc (deal-length (due (w .change) hs) ws)
 
 pub smaller-inside :
-  (ws : List Word) (l r : ℕ) (e : Entry) → r ≤ length ws → smaller e (entriesBetween ws l r) ≤ r - suc l
+    (ws : List Word) (l r : ℕ) (e : Entry) → r ≤ length ws → smaller e (entriesBetween ws l r) ≤ r - suc l
 unfolding smaller entriesBetween
 smaller-inside ws l r e le =
     omega (
       arith,
       count-le (λ (f : Entry). precedes f e) (deal (virginPlaces (suc l) (between ws l r)) (between ws l r)),
       deal-length (virginPlaces (suc l) (between ws l r)) (between ws l r),
-      length-slice (suc l) r ws le
+      length-slice (suc l) r ws le,
     )
 
 -- a goal that far from the first place of the stretch lies in it
@@ -71,16 +71,16 @@ mark-small e es = go (any (sameHome e) es) (all (λ (f : Entry). not (sameHome e
 
 -- ---- hand and goal
 hand-fits :
-  (sh : Shape) (t : Task) (side : Side) →
-  Fills side t →
-  HomePlace sh (end side (t .left) (t .right)) →
-  homePlace sh t < t .right →
-  t .right ≤ rightGuard sh →
-  from side (t .left) ≤ t .hand →
-  t .hand < upTo side (t .right) →
-  from side (t .left) ≤ t .goal →
-  t .goal < upTo side (t .right) →
-  t .mark ≤ 2 → (t .mark ≡ 1 → from side (t .left) < t .goal) → FitsHand sh t
+    (sh : Shape) (t : Task) (side : Side) →
+    Fills side t →
+    HomePlace sh (end side (t .left) (t .right)) →
+    homePlace sh t < t .right →
+    t .right ≤ rightGuard sh →
+    from side (t .left) ≤ t .hand →
+    t .hand < upTo side (t .right) →
+    from side (t .left) ≤ t .goal →
+    t .goal < upTo side (t .right) →
+    t .mark ≤ 2 → (t .mark ≡ 1 → from side (t .left) < t .goal) → FitsHand sh t
 unfolding rightGuard
 hand-fits sh t gaps.left fills room above inside hl hh gl gh marks closes =
     record {
@@ -93,7 +93,7 @@ hand-fits sh t gaps.left fills room above inside hl hh gl gh marks closes =
       goal-left = gl;
       goal-right = omega arith;
       marks = marks;
-      closes = λ one. (omega (arith, closes one), closes one)
+      closes = λ one. (omega (arith, closes one), closes one);
     }
 hand-fits sh t gaps.right fills room above inside hl hh gl gh marks closes =
     record {
@@ -106,7 +106,7 @@ hand-fits sh t gaps.right fills room above inside hl hh gl gh marks closes =
       goal-left = omega arith;
       goal-right = omega arith;
       marks = marks;
-      closes = λ one. (omega (arith, closes one), omega (arith, closes one))
+      closes = λ one. (omega (arith, closes one), omega (arith, closes one));
     }
 
 pub end-within : (side : Side) (l r : ℕ) → l < r → (from side l ≤ end side l r) × (end side l r < upTo side r)
@@ -127,8 +127,8 @@ pub record Named (side : Side) (t : Task) : Type 0 where
   pub closes : t .mark ≡ 1 → from side (t .left) < t .goal
 
 pub ready-named :
-  {sh : Shape} {ws laid : List Word} {shown : List Entry} {t : Task} →
-  length laid ≡ places sh → Looked sh ws t → (y : Ready sh laid shown t) → Named (y .side) t
+    {sh : Shape} {ws laid : List Word} {shown : List Entry} {t : Task} →
+    length laid ≡ places sh → Looked sh ws t → (y : Ready sh laid shown t) → Named (y .side) t
 unfolding places rightGuard
 ready-named {sh} {ws} {laid} {shown} {t} size x y =
     record {
@@ -137,27 +137,31 @@ ready-named {sh} {ws} {laid} {shown} {t} size x y =
       goal-low = omega (arith, y .goal);
       goal-high = omega (arith, y .goal, goal-below (y .side) (t .left) (t .right) (smaller e es) ordered rank);
       marks = omega (arith, y .mark, mark-small e es);
-      closes = λ one. omega (arith, y .goal, last-follows e es (sym (y .mark) ∙ one))
+      closes = λ one. omega (arith, y .goal, last-follows e es (sym (y .mark) ∙ one));
     }
   where
     e : Entry
     e = split sh (t .key)
+
     es : List Entry
     es = entriesBetween laid (t .left) (t .right)
+
     ordered : t .left < t .right
     ordered = omega (arith, x .leftward .below, x .above)
+
     near : (from (y .side) (t .left) ≤ end (y .side) (t .left) (t .right)) × (end (y .side) (t .left) (t .right) < upTo (y .side) (t .right))
     near = end-within (y .side) (t .left) (t .right) ordered
+
     rank : smaller e es ≤ t .right - suc (t .left)
     rank = smaller-inside laid (t .left) (t .right) e (omega (arith, x .inside))
 
 -- ---- stages
 -- a record that has looked both ways, in a phase without a hand
 looked-fits :
-  {sh : Shape} {ws : List Word} (t : Task) →
-  3 ≤ t .phase →
-  t .phase ≤ 12 →
-  (8 ≤ t .phase → t .phase ≤ 10 → ⊥) → t .key < keys sh → Looked sh ws t → FitsBusy sh t
+    {sh : Shape} {ws : List Word} (t : Task) →
+    3 ≤ t .phase →
+    t .phase ≤ 12 →
+    (8 ≤ t .phase → t .phase ≤ 10 → ⊥) → t .key < keys sh → Looked sh ws t → FitsBusy sh t
 looked-fits t low high without k x =
     record {
       first = omega arith;
@@ -168,7 +172,7 @@ looked-fits t low high without k x =
       hand = λ p q. absurd (without p q);
       at-8 = λ p. absurd (without (omega arith) (omega arith));
       at-9 = λ p. absurd (without (omega arith) (omega arith));
-      at-10 = λ p. absurd (without (omega arith) (omega arith))
+      at-10 = λ p. absurd (without (omega arith) (omega arith));
     }
 
 module _ {sh : Shape} {ws laid : List Word} {shown : List Entry} (size : length laid ≡ places sh) where
@@ -181,28 +185,29 @@ module _ {sh : Shape} {ws laid : List Word} {shown : List Entry} (size : length 
         left = λ q. x .leftward .below;
         right = λ q. (x .above, x .inside);
         hand = λ a b.
-          hand-fits sh t (y .side) (y .fills) (y .room) (x .above) (x .inside) (n .hand-low) (n .hand-high) (n .goal-low) (n .goal-high) (n .marks) (n .closes);
+            hand-fits sh t (y .side) (y .fills) (y .room) (x .above) (x .inside) (n .hand-low) (n .hand-high) (n .goal-low) (n .goal-high) (n .marks) (n .closes);
         at-8 = λ q. either (end-either (y .side) (t .left) (t .right));
         at-9 = λ q. absurd (omega arith);
-        at-10 = λ q. absurd (omega arith)
+        at-10 = λ q. absurd (omega arith);
       }
     where
       n : Named (y .side) t
       n = ready-named size x y
+
       either :
-        (end (y .side) (t .left) (t .right) ≡ t .left) ⊎ (end (y .side) (t .left) (t .right) ≡ t .right) →
-        (t .hand ≡ t .left) ⊎ (t .hand ≡ t .right)
+          (end (y .side) (t .left) (t .right) ≡ t .left) ⊎ (end (y .side) (t .left) (t .right) ≡ t .right) →
+          (t .hand ≡ t .left) ⊎ (t .hand ≡ t .right)
       either (inl e) = inl (y .hand ∙ e)
       either (inr e) = inr (y .hand ∙ e)
 
   moving-fits :
-    (t : Task) →
-    9 ≤ t .phase →
-    t .phase ≤ 10 →
-    t .key < keys sh →
-    Looked sh ws t →
-    Moving sh ws laid shown t →
-    (t .phase ≡ 9 → t .hand ≢ t .goal) → (t .phase ≡ 10 → t .hand ≡ t .goal) → FitsBusy sh t
+      (t : Task) →
+      9 ≤ t .phase →
+      t .phase ≤ 10 →
+      t .key < keys sh →
+      Looked sh ws t →
+      Moving sh ws laid shown t →
+      (t .phase ≡ 9 → t .hand ≢ t .goal) → (t .phase ≡ 10 → t .hand ≡ t .goal) → FitsBusy sh t
   moving-fits t a b k x y apart there =
       record {
         first = omega arith;
@@ -211,10 +216,10 @@ module _ {sh : Shape} {ws laid : List Word} {shown : List Entry} (size : length 
         left = λ q. x .leftward .below;
         right = λ q. (x .above, x .inside);
         hand = λ p q.
-          hand-fits sh t (y .side) (y .fills) (y .room) (x .above) (x .inside) (y .hand-low) (y .hand-high) (y .goal-low) (y .goal-high) (y .mark) (y .closes);
+            hand-fits sh t (y .side) (y .fills) (y .room) (x .above) (x .inside) (y .hand-low) (y .hand-high) (y .goal-low) (y .goal-high) (y .mark) (y .closes);
         at-8 = λ q. absurd (omega arith);
         at-9 = apart;
-        at-10 = there
+        at-10 = there;
       }
 
   pub stage-fits : (t : Task) → Stage sh ws laid shown t → fits sh t ≡ true
@@ -234,7 +239,7 @@ module _ {sh : Shape} {ws laid : List Word} {shown : List Entry} (size : length 
         hand = λ q r. absurd (omega arith);
         at-8 = λ q. absurd (omega arith);
         at-9 = λ q. absurd (omega arith);
-        at-10 = λ q. absurd (omega arith)
+        at-10 = λ q. absurd (omega arith);
       })
   stage-fits t (looks-left p k x) =
       fits-busy
@@ -249,7 +254,7 @@ module _ {sh : Shape} {ws laid : List Word} {shown : List Entry} (size : length 
         hand = λ q r. absurd (omega arith);
         at-8 = λ q. absurd (omega arith);
         at-9 = λ q. absurd (omega arith);
-        at-10 = λ q. absurd (omega arith)
+        at-10 = λ q. absurd (omega arith);
       })
   stage-fits t (looks-right p q k x) = fits-busy sh t (looked-fits t p (omega arith) (λ a b. omega arith) k x)
   stage-fits t (owns-left p q k x e) = fits-busy sh t (looked-fits t (omega arith) (omega arith) (λ a b. omega arith) k x)

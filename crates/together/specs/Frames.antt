@@ -59,73 +59,74 @@ module _ (ws : List Word) (a b : ℕ) (le : a ≤ b) (lt : b < length ws) where
 
   -- finishing inside the stretch, as finishing the stretch alone
   module _ (hand goal mark home : ℕ)
-    (hand-in : Within a b hand) (goal-in : Within a b goal) (home-in : Within a b home)
-    (closes : mark ≡ 1 → a < goal)
+      (hand-in : Within a b hand) (goal-in : Within a b goal) (home-in : Within a b home)
+      (closes : mark ≡ 1 → a < goal)
     where
-    inner : List Word
-    inner = finish (stretch ws a b) (hand - a) (goal - a) mark (home - a)
+      inner : List Word
+      inner = finish (stretch ws a b) (hand - a) (goal - a) mark (home - a)
 
-    finish-parts : finish ws hand goal mark home ≡ take a ws ++ (inner ++ drop (suc b) ws)
-    unfolding inner
-    finish-parts =
-        (λ j. finish (parts ws a b le lt j) (place hand (hand-in .0) j) (place goal (goal-in .0) j) mark (place home (home-in .0) j))
-        ∙ finish-within
-        (take a ws)
-        (stretch ws a b)
-        (drop (suc b) ws)
-        (hand - a)
-        (goal - a)
-        mark
-        (home - a)
-        (omega (arith, stretch-length))
-        (omega (arith, stretch-length))
-        (omega (arith, stretch-length))
-        (λ one. omega (arith, closes one))
-      where
-        place : (p : ℕ) → a ≤ p → p ≡ length (take a ws) + (p - a)
-        place p low = omega (arith, before-length)
+      finish-parts : finish ws hand goal mark home ≡ take a ws ++ (inner ++ drop (suc b) ws)
+      unfolding inner
+      finish-parts =
+          (λ j. finish (parts ws a b le lt j) (place hand (hand-in .0) j) (place goal (goal-in .0) j) mark (place home (home-in .0) j))
+          ∙ finish-within
+          (take a ws)
+          (stretch ws a b)
+          (drop (suc b) ws)
+          (hand - a)
+          (goal - a)
+          mark
+          (home - a)
+          (omega (arith, stretch-length))
+          (omega (arith, stretch-length))
+          (omega (arith, stretch-length))
+          (λ one. omega (arith, closes one))
+        where
+          place : (p : ℕ) → a ≤ p → p ≡ length (take a ws) + (p - a)
+          place p low = omega (arith, before-length)
 
-    inner-length : length inner ≡ length (stretch ws a b)
-    unfolding inner
-    inner-length =
-        length-locks inner (stretch ws a b) (finish-locks (stretch ws a b) (hand - a) (goal - a) mark (home - a))
+      inner-length : length inner ≡ length (stretch ws a b)
+      unfolding inner
+      inner-length =
+          length-locks inner (stretch ws a b) (finish-locks (stretch ws a b) (hand - a) (goal - a) mark (home - a))
 
-    -- outside it nothing changes
-    pub finish-before : (p : ℕ) → p < a → at (finish ws hand goal mark home) p ≡ at ws p
-    finish-before p low =
-        ap (λ (us : List Word). at us p) finish-parts
-        ∙ List·getD-append (take a ws) (inner ++ drop (suc b) ws) zeroWord p (omega (arith, before-length))
-        ∙ getD-take a ws p zeroWord low
+      -- outside it nothing changes
+      pub finish-before : (p : ℕ) → p < a → at (finish ws hand goal mark home) p ≡ at ws p
+      finish-before p low =
+          ap (λ (us : List Word). at us p) finish-parts
+          ∙ List·getD-append (take a ws) (inner ++ drop (suc b) ws) zeroWord p (omega (arith, before-length))
+          ∙ getD-take a ws p zeroWord low
 
-    pub finish-after : (p : ℕ) → b < p → at (finish ws hand goal mark home) p ≡ at ws p
-    finish-after p high =
-        ap (λ (us : List Word). at us p) (finish-parts ∙ sym (append-assoc (take a ws) inner (drop (suc b) ws)))
-        ∙ ap (at ((take a ws ++ inner) ++ drop (suc b) ws)) place
-        ∙ getD-append-add (take a ws ++ inner) (drop (suc b) ws) (p - suc b) zeroWord
-        ∙ getD-drop (suc b) ws (p - suc b) zeroWord
-        ∙ ap (at ws) there
-      where
-        place : p ≡ length (take a ws ++ inner) + (p - suc b)
-        place = omega (arith, length-append (take a ws) inner, before-length, inner-length, stretch-length)
-        there : suc b + (p - suc b) ≡ p
-        there = omega arith
+      pub finish-after : (p : ℕ) → b < p → at (finish ws hand goal mark home) p ≡ at ws p
+      finish-after p high =
+          ap (λ (us : List Word). at us p) (finish-parts ∙ sym (append-assoc (take a ws) inner (drop (suc b) ws)))
+          ∙ ap (at ((take a ws ++ inner) ++ drop (suc b) ws)) place
+          ∙ getD-append-add (take a ws ++ inner) (drop (suc b) ws) (p - suc b) zeroWord
+          ∙ getD-drop (suc b) ws (p - suc b) zeroWord
+          ∙ ap (at ws) there
+        where
+          place : p ≡ length (take a ws ++ inner) + (p - suc b)
+          place = omega (arith, length-append (take a ws) inner, before-length, inner-length, stretch-length)
 
-    -- inside it only the stretch matters
-    finish-inside : (p : ℕ) → Within a b p → at (finish ws hand goal mark home) p ≡ at inner (p - a)
-    finish-inside p near =
-        ap (λ (us : List Word). at us p) finish-parts
-        ∙ ap (at (take a ws ++ (inner ++ drop (suc b) ws))) place
-        ∙ getD-append-add (take a ws) (inner ++ drop (suc b) ws) (p - a) zeroWord
-        ∙ List·getD-append inner (drop (suc b) ws) zeroWord (p - a) (omega (arith, inner-length, stretch-length))
-      where
-        place : p ≡ length (take a ws) + (p - a)
-        place = omega (arith, before-length)
+          there : suc b + (p - suc b) ≡ p
+          there = omega arith
+
+      -- inside it only the stretch matters
+      finish-inside : (p : ℕ) → Within a b p → at (finish ws hand goal mark home) p ≡ at inner (p - a)
+      finish-inside p near =
+          ap (λ (us : List Word). at us p) finish-parts
+          ∙ ap (at (take a ws ++ (inner ++ drop (suc b) ws))) place
+          ∙ getD-append-add (take a ws) (inner ++ drop (suc b) ws) (p - a) zeroWord
+          ∙ List·getD-append inner (drop (suc b) ws) zeroWord (p - a) (omega (arith, inner-length, stretch-length))
+        where
+          place : p ≡ length (take a ws) + (p - a)
+          place = omega (arith, before-length)
 
 stretch-same :
-  (ws vs : List Word) (a b : ℕ) →
-  a ≤ b →
-  b < length ws →
-  length ws ≡ length vs → ((p : ℕ) → Within a b p → at ws p ≡ at vs p) → stretch ws a b ≡ stretch vs a b
+    (ws vs : List Word) (a b : ℕ) →
+    a ≤ b →
+    b < length ws →
+    length ws ≡ length vs → ((p : ℕ) → Within a b p → at ws p ≡ at vs p) → stretch ws a b ≡ stretch vs a b
 stretch-same ws vs a b le lt size alike =
     ext-getD
     zeroWord
@@ -138,17 +139,17 @@ stretch-same ws vs a b le lt size alike =
 
 -- tables that agree on the stretch agree there when finished
 pub finish-agree :
-  (ws vs : List Word) (a b : ℕ) →
-  a ≤ b →
-  b < length ws →
-  length ws ≡ length vs →
-  (hand goal mark home : ℕ) →
-  Within a b hand →
-  Within a b goal →
-  Within a b home →
-  (mark ≡ 1 → a < goal) →
-  ((p : ℕ) → Within a b p → at ws p ≡ at vs p) →
-  (p : ℕ) → Within a b p → at (finish ws hand goal mark home) p ≡ at (finish vs hand goal mark home) p
+    (ws vs : List Word) (a b : ℕ) →
+    a ≤ b →
+    b < length ws →
+    length ws ≡ length vs →
+    (hand goal mark home : ℕ) →
+    Within a b hand →
+    Within a b goal →
+    Within a b home →
+    (mark ≡ 1 → a < goal) →
+    ((p : ℕ) → Within a b p → at ws p ≡ at vs p) →
+    (p : ℕ) → Within a b p → at (finish ws hand goal mark home) p ≡ at (finish vs hand goal mark home) p
 unfolding inner
 finish-agree ws vs a b le lt size hand goal mark home hand-in goal-in home-in closes alike p near =
     finish-inside ws a b le lt hand goal mark home hand-in goal-in home-in closes p near
@@ -172,8 +173,8 @@ occupied-same ws vs p e = sym (occupied-at ws p) ∙ ap (λ (bs : List Bool). ge
 
 -- words with the same places occupied, place by place
 pub occupied-by :
-  (ws vs : List Word) →
-  length ws ≡ length vs → ((p : ℕ) → at ws p .occupied ≡ at vs p .occupied) → occupied ws ≡ occupied vs
+    (ws vs : List Word) →
+    length ws ≡ length vs → ((p : ℕ) → at ws p .occupied ≡ at vs p .occupied) → occupied ws ≡ occupied vs
 occupied-by ws vs size alike =
     ext-getD
     false

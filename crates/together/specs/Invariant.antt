@@ -59,8 +59,8 @@ pub record Ready (sh : Shape) (laid : List Word) (shown : List Entry) (t : Task)
   pub room : HomePlace sh (end side (t .left) (t .right))
   pub hand : t .hand ≡ end side (t .left) (t .right)
   pub goal :
-    t .goal
-    ≡ from side (t .left) + smaller (split sh (t .key)) (entriesBetween laid (t .left) (t .right))
+      t .goal
+      ≡ from side (t .left) + smaller (split sh (t .key)) (entriesBetween laid (t .left) (t .right))
   pub mark : t .mark ≡ markOf (split sh (t .key)) (entriesBetween laid (t .left) (t .right))
   pub new : holds (split sh (t .key)) shown ≡ false
 
@@ -78,35 +78,35 @@ pub record Moving (sh : Shape) (ws laid : List Word) (shown : List Entry) (t : T
   pub mark : t .mark ≤ 2
   pub closes : t .mark ≡ 1 → from side (t .left) < t .goal
   pub finished :
-    (q : ℕ) →
-    Within (t .left) (t .right) q →
-    unlock (at (finish ws (t .hand) (t .goal) (t .mark) (homePlace sh t)) q) ≡ at laid q
+      (q : ℕ) →
+      Within (t .left) (t .right) q →
+      unlock (at (finish ws (t .hand) (t .goal) (t .mark) (homePlace sh t)) q) ≡ at laid q
   pub put : holds (split sh (t .key)) shown ≡ true
 
 -- phase 11: both ends are still owned; only an inserted key filled one
 pub data Ends (sh : Shape) (ws : List Word) (shown : List Entry) (t : Task) : Type 0 where
   ends-found :
-    t .answer ≡ 1 →
-    holds (split sh (t .key)) shown ≡ true →
-    at ws (t .left) ≡ lockWord → at ws (t .right) ≡ lockWord → Ends sh ws shown t
+      t .answer ≡ 1 →
+      holds (split sh (t .key)) shown ≡ true →
+      at ws (t .left) ≡ lockWord → at ws (t .right) ≡ lockWord → Ends sh ws shown t
   ends-full : t .answer ≡ 3 → at ws (t .left) ≡ lockWord → at ws (t .right) ≡ lockWord → Ends sh ws shown t
   ends-inserted :
-    t .answer ≡ 2 →
-    holds (split sh (t .key)) shown ≡ true →
-    (side : Side) →
-    Fills side t →
-    FilledEnd ws (end side (t .left) (t .right)) →
-    at ws (end (other side) (t .left) (t .right)) ≡ lockWord → Ends sh ws shown t
+      t .answer ≡ 2 →
+      holds (split sh (t .key)) shown ≡ true →
+      (side : Side) →
+      Fills side t →
+      FilledEnd ws (end side (t .left) (t .right)) →
+      at ws (end (other side) (t .left) (t .right)) ≡ lockWord → Ends sh ws shown t
 
 -- phase 12: only the right end is owned; of the left nothing is said, since another task may hold or have filled it
 pub data RightEnd (sh : Shape) (ws : List Word) (shown : List Entry) (t : Task) : Type 0 where
   right-found :
-    t .answer ≡ 1 → holds (split sh (t .key)) shown ≡ true → at ws (t .right) ≡ lockWord → RightEnd sh ws shown t
+      t .answer ≡ 1 → holds (split sh (t .key)) shown ≡ true → at ws (t .right) ≡ lockWord → RightEnd sh ws shown t
   right-full : t .answer ≡ 3 → at ws (t .right) ≡ lockWord → RightEnd sh ws shown t
   right-waiting :
-    t .answer ≡ 2 → holds (split sh (t .key)) shown ≡ true → at ws (t .right) ≡ lockWord → RightEnd sh ws shown t
+      t .answer ≡ 2 → holds (split sh (t .key)) shown ≡ true → at ws (t .right) ≡ lockWord → RightEnd sh ws shown t
   right-filled :
-    t .answer ≡ 2 → holds (split sh (t .key)) shown ≡ true → FilledEnd ws (t .right) → RightEnd sh ws shown t
+      t .answer ≡ 2 → holds (split sh (t .key)) shown ≡ true → FilledEnd ws (t .right) → RightEnd sh ws shown t
 
 -- what a task relies on in each phase; its key is in range in all phases but at rest
 pub data Stage (sh : Shape) (ws laid : List Word) (shown : List Entry) (t : Task) : Type 0 where
@@ -117,18 +117,18 @@ pub data Stage (sh : Shape) (ws laid : List Word) (shown : List Entry) (t : Task
   looks-right : 3 ≤ t .phase → t .phase ≤ 4 → t .key < keys sh → Looked sh ws t → Stage sh ws laid shown t
   -- phases 5 and 6 own the left end, exactly the lock bit
   owns-left :
-    5 ≤ t .phase →
-    t .phase ≤ 6 → t .key < keys sh → Looked sh ws t → at ws (t .left) ≡ lockWord → Stage sh ws laid shown t
+      5 ≤ t .phase →
+      t .phase ≤ 6 → t .key < keys sh → Looked sh ws t → at ws (t .left) ≡ lockWord → Stage sh ws laid shown t
   -- phase 7 owns both ends, exactly the lock bit, so what lies between is one cluster that nobody else may enlarge
   owns-both :
-    t .phase ≡ 7 →
-    t .key < keys sh →
-    Looked sh ws t → at ws (t .left) ≡ lockWord → at ws (t .right) ≡ lockWord → Stage sh ws laid shown t
+      t .phase ≡ 7 →
+      t .key < keys sh →
+      Looked sh ws t → at ws (t .left) ≡ lockWord → at ws (t .right) ≡ lockWord → Stage sh ws laid shown t
   has-read :
-    t .phase ≡ 8 →
-    t .key < keys sh →
-    Looked sh ws t →
-    at ws (t .left) ≡ lockWord → at ws (t .right) ≡ lockWord → Ready sh laid shown t → Stage sh ws laid shown t
+      t .phase ≡ 8 →
+      t .key < keys sh →
+      Looked sh ws t →
+      at ws (t .left) ≡ lockWord → at ws (t .right) ≡ lockWord → Ready sh laid shown t → Stage sh ws laid shown t
   moving : t .phase ≡ 9 → t .key < keys sh → Looked sh ws t → t .hand ≢ t .goal → Moving sh ws laid shown t → Stage sh ws laid shown t
   marking : t .phase ≡ 10 → t .key < keys sh → Looked sh ws t → t .hand ≡ t .goal → Moving sh ws laid shown t → Stage sh ws laid shown t
   frees-left : t .phase ≡ 11 → t .key < keys sh → Looked sh ws t → Ends sh ws shown t → Stage sh ws laid shown t
@@ -171,5 +171,5 @@ pub record Inv (sh : Shape) (ws : List Word) (ts : List Task) (laid : List Word)
   pub owner : (p : ℕ) → at ws p .lock ≡ true → (i : ℕ) × (i < length ts) × Owns (taskAt ts i) p
   -- where nobody is moving, the words are those laid
   pub settled :
-    (p : ℕ) →
-    ((i : ℕ) → i < length ts → Unfinished (taskAt ts i) p → ⊥) → unlock (at ws p) ≡ at laid p
+      (p : ℕ) →
+      ((i : ℕ) → i < length ts → Unfinished (taskAt ts i) p → ⊥) → unlock (at ws p) ≡ at laid p

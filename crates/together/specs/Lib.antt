@@ -13,3 +13,6 @@ pub mod Reading
 pub mod Finishing
 pub mod Commit
 pub mod Course
+pub mod Machine
+pub mod History
+pub mod Fair

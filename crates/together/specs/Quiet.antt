@@ -35,21 +35,21 @@ locked-word : {w : Word} → w ≡ lockWord → w .lock ≡ true
 locked-word e = ap (λ (w : Word). w .lock) e
 
 end-locked :
-  (ws : List Word) (side : Side) (l r : ℕ) →
-  FilledEnd ws (end side l r) →
-  at ws (end (other side) l r) ≡ lockWord → (at ws l .lock ≡ true) × (at ws r .lock ≡ true)
+    (ws : List Word) (side : Side) (l r : ℕ) →
+    FilledEnd ws (end side l r) →
+    at ws (end (other side) l r) ≡ lockWord → (at ws l .lock ≡ true) × (at ws r .lock ≡ true)
 end-locked ws gaps.left l r f e = (f .kept, locked-word e)
 end-locked ws gaps.right l r f e = (locked-word e, f .kept)
 
 ends-locked :
-  {sh : Shape} {ws : List Word} {shown : List Entry} {t : Task} →
-  Ends sh ws shown t → (at ws (t .left) .lock ≡ true) × (at ws (t .right) .lock ≡ true)
+    {sh : Shape} {ws : List Word} {shown : List Entry} {t : Task} →
+    Ends sh ws shown t → (at ws (t .left) .lock ≡ true) × (at ws (t .right) .lock ≡ true)
 ends-locked (ends-found n h x y) = (locked-word x, locked-word y)
 ends-locked (ends-full n x y) = (locked-word x, locked-word y)
 ends-locked {ws = ws} {t = t} (ends-inserted n h side k x y) = end-locked ws side (t .left) (t .right) x y
 
 right-locked :
-  {sh : Shape} {ws : List Word} {shown : List Entry} {t : Task} → RightEnd sh ws shown t → at ws (t .right) .lock ≡ true
+    {sh : Shape} {ws : List Word} {shown : List Entry} {t : Task} → RightEnd sh ws shown t → at ws (t .right) .lock ≡ true
 right-locked (right-found n h x) = locked-word x
 right-locked (right-full n x) = locked-word x
 right-locked (right-waiting n h x) = locked-word x
@@ -80,35 +80,35 @@ stage-held (frees-left e k x y) = (λ a b. ends-locked y .0, λ a b. ends-locked
 stage-held (frees-right e k x y) = (λ a b. absurd (omega arith), λ a b. right-locked y)
 
 pub owned-locked :
-  {sh : Shape} {ws laid : List Word} {shown : List Entry} {t : Task} (p : ℕ) →
-  Stage sh ws laid shown t → Owns t p → at ws p .lock ≡ true
+    {sh : Shape} {ws laid : List Word} {shown : List Entry} {t : Task} (p : ℕ) →
+    Stage sh ws laid shown t → Owns t p → at ws p .lock ≡ true
 owned-locked {ws = ws} p stage (by-left a b e) = ap (λ (q : ℕ). at ws q .lock) e ∙ stage-held stage .0 a b
 owned-locked {ws = ws} p stage (by-right a b e) = ap (λ (q : ℕ). at ws q .lock) e ∙ stage-held stage .1 a b
 
 -- ---- steps that write nothing
 -- a record that owns and reserves no more than before, seen from another task
 pub apart-less :
-  {t t′ u : Task} →
-  ((p : ℕ) → Owns t′ p → Owns t p) →
-  (Reserves t′ → Reserves t × (t′ .left ≡ t .left) × (t′ .right ≡ t .right)) → Apart t u → Apart t′ u
+    {t t′ u : Task} →
+    ((p : ℕ) → Owns t′ p → Owns t p) →
+    (Reserves t′ → Reserves t × (t′ .left ≡ t .left) × (t′ .right ≡ t .right)) → Apart t u → Apart t′ u
 apart-less {t} {t′} {u} less same a =
     record {
       owners = λ p x y. a .owners p (less p x) y;
       stretches = λ x y p i j.
-        let s = same x in
-        a .stretches (s .0) y p (subst₂ (λ (l r : ℕ). Within l r p) (s .1) (s .2) i) j
+          let s = same x in
+          a .stretches (s .0) y p (subst₂ (λ (l r : ℕ). Within l r p) (s .1) (s .2) i) j;
     }
 
 pub still :
-  {sh : Shape} {ws : List Word} {ts : List Task} {laid : List Word} {shown : List Entry} (i : ℕ) (t′ : Task) →
-  remainders sh ≤ 4096 →
-  Inv sh ws ts laid shown →
-  Stage sh ws laid shown t′ →
-  ((p : ℕ) → Owns (taskAt ts i) p → Owns t′ p) →
-  ((p : ℕ) → Owns t′ p → Owns (taskAt ts i) p) →
-  (Reserves t′ →
-  Reserves (taskAt ts i) × (t′ .left ≡ taskAt ts i .left) × (t′ .right ≡ taskAt ts i .right)) →
-  ((p : ℕ) → Unfinished (taskAt ts i) p → Unfinished t′ p) → Steps sh ws ts laid shown i t′ ws laid shown
+    {sh : Shape} {ws : List Word} {ts : List Task} {laid : List Word} {shown : List Entry} (i : ℕ) (t′ : Task) →
+    remainders sh ≤ 4096 →
+    Inv sh ws ts laid shown →
+    Stage sh ws laid shown t′ →
+    ((p : ℕ) → Owns (taskAt ts i) p → Owns t′ p) →
+    ((p : ℕ) → Owns t′ p → Owns (taskAt ts i) p) →
+    (Reserves t′ →
+    Reserves (taskAt ts i) × (t′ .left ≡ taskAt ts i .left) × (t′ .right ≡ taskAt ts i .right)) →
+    ((p : ℕ) → Unfinished (taskAt ts i) p → Unfinished t′ p) → Steps sh ws ts laid shown i t′ ws laid shown
 still {sh} {ws} {ts} {laid} {shown} i t′ low inv stage more less same open-still =
     record {
       plain = inv .plain;
@@ -118,14 +118,14 @@ still {sh} {ws} {ts} {laid} {shown} i t′ low inv stage more less same open-sti
       others = λ u a s. s;
       apart = λ u a s. apart-less less same a;
       owner = λ p locked. inr (locked, more p);
-      settled = λ p own others. inv .settled p (λ j l u. none p own others j l u (same-or-not i j))
+      settled = λ p own others. inv .settled p (λ j l u. none p own others j l u (same-or-not i j));
     }
   where
     none :
-      (p : ℕ) →
-      (Unfinished t′ p → ⊥) →
-      ((j : ℕ) → j < length ts → j ≢ i → Unfinished (taskAt ts j) p → ⊥) →
-      (j : ℕ) → j < length ts → Unfinished (taskAt ts j) p → (j ≡ i) ⊎ (j ≢ i) → ⊥
+        (p : ℕ) →
+        (Unfinished t′ p → ⊥) →
+        ((j : ℕ) → j < length ts → j ≢ i → Unfinished (taskAt ts j) p → ⊥) →
+        (j : ℕ) → j < length ts → Unfinished (taskAt ts j) p → (j ≡ i) ⊎ (j ≢ i) → ⊥
     none p own others j l u (inl e) = own (open-still p (subst (λ (k : ℕ). Unfinished (taskAt ts k) p) e u))
     none p own others j l u (inr n) = others j l n u
 
@@ -177,89 +177,90 @@ module _ (ws : List Word) (p : ℕ) (b : Bool) (lt : p < length ws) where
       ∙ occupied-unlock ws
 
 module _ {sh : Shape} {ws : List Word} {ts : List Task} {laid : List Word} {shown : List Entry} (i : ℕ) (t′ : Task)
-  (low : remainders sh ≤ 4096) (inv : Inv sh ws ts laid shown) (p : ℕ) (b : Bool) (lt : p < length ws)
-  -- nobody else owns the place
-  (alone : (u : Task) → Apart (taskAt ts i) u → Stage sh ws laid shown u → Owns u p → ⊥)
+    (low : remainders sh ≤ 4096) (inv : Inv sh ws ts laid shown) (p : ℕ) (b : Bool) (lt : p < length ws)
+    -- nobody else owns the place
+    (alone : (u : Task) → Apart (taskAt ts i) u → Stage sh ws laid shown u → Owns u p → ⊥)
   where
-  relock-frame : Frame sh ws laid shown (relocked ws p b lt) laid shown (λ q. ⊥)
-  relock-frame =
-      record {
-        size = words-size low inv;
-        size′ = relocked-size ws p b lt ∙ words-size low inv;
-        laid-size = inv .plain .size;
-        laid-size′ = inv .plain .size;
-        words = λ q n. relocked-words ws p b lt q;
-        grows = λ q h. relocked-occupied ws p b lt q ∙ h;
-        laid-words = λ q n. refl;
-        keeps = λ e h. h
-      }
+    relock-frame : Frame sh ws laid shown (relocked ws p b lt) laid shown (λ q. ⊥)
+    relock-frame =
+        record {
+          size = words-size low inv;
+          size′ = relocked-size ws p b lt ∙ words-size low inv;
+          laid-size = inv .plain .size;
+          laid-size′ = inv .plain .size;
+          words = λ q n. relocked-words ws p b lt q;
+          grows = λ q h. relocked-occupied ws p b lt q ∙ h;
+          laid-words = λ q n. refl;
+          keeps = λ e h. h;
+        }
 
-  relock-alone :
-    (u : Task) →
-    Apart (taskAt ts i) u →
-    Stage sh ws laid shown u → LetsAlone ws (relocked ws p b lt) (λ q. ⊥) u
-  relock-alone u a s =
-      record {
-        locks = λ q o.
-          ap
-          (λ (w : Word). w .lock)
-          (relocked-other ws p b lt q (λ (e : q ≡ p). alone u a s (subst (Owns u) e o)));
-        ends = λ q o f x. x;
-        stretch = λ r q n x. x
-      }
+    relock-alone :
+        (u : Task) →
+        Apart (taskAt ts i) u →
+        Stage sh ws laid shown u → LetsAlone ws (relocked ws p b lt) (λ q. ⊥) u
+    relock-alone u a s =
+        record {
+          locks = λ q o.
+              ap
+              (λ (w : Word). w .lock)
+              (relocked-other ws p b lt q (λ (e : q ≡ p). alone u a s (subst (Owns u) e o)));
+          ends = λ q o f x. x;
+          stretch = λ r q n x. x;
+        }
 
-  pub relock :
-    Stage sh (relocked ws p b lt) laid shown t′ →
-    ((u : Task) → Apart (taskAt ts i) u → Stage sh ws laid shown u → Apart t′ u) →
-    ((q : ℕ) → q ≢ p → Owns (taskAt ts i) q → Owns t′ q) →
-    (b ≡ true → Owns t′ p) →
-    ((q : ℕ) → Unfinished (taskAt ts i) q → Unfinished t′ q) →
-    Steps sh ws ts laid shown i t′ (relocked ws p b lt) laid shown
-  relock stage apart kept new open-still =
-      record {
-        plain = inv .plain;
-        places = relocked-places ws p b lt ∙ inv .places;
-        small = λ q. subst (λ (n : ℕ). n < 4096) (sym (ap (λ (w : Word). w .remainder) (relocked-words ws p b lt q))) (inv .small q);
-        stage = stage;
-        others = λ u a s. stage-stable relock-frame u (relock-alone u a s) (λ e. refl) s;
-        apart = apart;
-        owner = λ q locked. owner-at q locked (same-or-not p q);
-        settled = λ q own others.
-          relocked-words ws p b lt q ∙ inv .settled q (λ j l u. none q own others j l u (same-or-not i j))
-      }
-    where
-      owner-at :
-        (q : ℕ) →
-        at (relocked ws p b lt) q .lock ≡ true →
-        (q ≡ p) ⊎ (q ≢ p) → Owns t′ q ⊎ ((at ws q .lock ≡ true) × (Owns (taskAt ts i) q → Owns t′ q))
-      owner-at q locked (inl e) =
-          inl
-          (subst
-          (Owns t′)
-          (sym e)
-          (new (sym (ap (λ (w : Word). w .lock) (relocked-here ws p b lt)) ∙ ap (λ (r : ℕ). at (relocked ws p b lt) r .lock) (sym e) ∙ locked)))
-      owner-at q locked (inr n) =
-          inr (sym (ap (λ (w : Word). w .lock) (relocked-other ws p b lt q n)) ∙ locked, kept q n)
-      none :
-        (q : ℕ) →
-        (Unfinished t′ q → ⊥) →
-        ((j : ℕ) → j < length ts → j ≢ i → Unfinished (taskAt ts j) q → ⊥) →
-        (j : ℕ) → j < length ts → Unfinished (taskAt ts j) q → (j ≡ i) ⊎ (j ≢ i) → ⊥
-      none q own others j l u (inl e) = own (open-still q (subst (λ (k : ℕ). Unfinished (taskAt ts k) q) e u))
-      none q own others j l u (inr n) = others j l n u
+    pub relock :
+        Stage sh (relocked ws p b lt) laid shown t′ →
+        ((u : Task) → Apart (taskAt ts i) u → Stage sh ws laid shown u → Apart t′ u) →
+        ((q : ℕ) → q ≢ p → Owns (taskAt ts i) q → Owns t′ q) →
+        (b ≡ true → Owns t′ p) →
+        ((q : ℕ) → Unfinished (taskAt ts i) q → Unfinished t′ q) →
+        Steps sh ws ts laid shown i t′ (relocked ws p b lt) laid shown
+    relock stage apart kept new open-still =
+        record {
+          plain = inv .plain;
+          places = relocked-places ws p b lt ∙ inv .places;
+          small = λ q. subst (λ (n : ℕ). n < 4096) (sym (ap (λ (w : Word). w .remainder) (relocked-words ws p b lt q))) (inv .small q);
+          stage = stage;
+          others = λ u a s. stage-stable relock-frame u (relock-alone u a s) (λ e. refl) s;
+          apart = apart;
+          owner = λ q locked. owner-at q locked (same-or-not p q);
+          settled = λ q own others.
+              relocked-words ws p b lt q ∙ inv .settled q (λ j l u. none q own others j l u (same-or-not i j));
+        }
+      where
+        owner-at :
+            (q : ℕ) →
+            at (relocked ws p b lt) q .lock ≡ true →
+            (q ≡ p) ⊎ (q ≢ p) → Owns t′ q ⊎ ((at ws q .lock ≡ true) × (Owns (taskAt ts i) q → Owns t′ q))
+        owner-at q locked (inl e) =
+            inl
+            (subst
+            (Owns t′)
+            (sym e)
+            (new (sym (ap (λ (w : Word). w .lock) (relocked-here ws p b lt)) ∙ ap (λ (r : ℕ). at (relocked ws p b lt) r .lock) (sym e) ∙ locked)))
+        owner-at q locked (inr n) =
+            inr (sym (ap (λ (w : Word). w .lock) (relocked-other ws p b lt q n)) ∙ locked, kept q n)
+
+        none :
+            (q : ℕ) →
+            (Unfinished t′ q → ⊥) →
+            ((j : ℕ) → j < length ts → j ≢ i → Unfinished (taskAt ts j) q → ⊥) →
+            (j : ℕ) → j < length ts → Unfinished (taskAt ts j) q → (j ≡ i) ⊎ (j ≢ i) → ⊥
+        none q own others j l u (inl e) = own (open-still q (subst (λ (k : ℕ). Unfinished (taskAt ts k) q) e u))
+        none q own others j l u (inr n) = others j l n u
 
 -- what a task sees of its own part after its own lock was changed
 pub relock-looked :
-  {sh : Shape} {ws : List Word} (t : Task) (p : ℕ) (b : Bool) (lt : p < length ws) →
-  Looked sh ws t → Looked sh (relocked ws p b lt) t
+    {sh : Shape} {ws : List Word} (t : Task) (p : ℕ) (b : Bool) (lt : p < length ws) →
+    Looked sh ws t → Looked sh (relocked ws p b lt) t
 relock-looked {ws = ws} t p b lt x =
     record {
       leftward =
-        record {
-          below = x .leftward .below;
-          taken = λ q l h. relocked-occupied ws p b lt q ∙ x .leftward .taken q l h
-        };
+          record {
+            below = x .leftward .below;
+            taken = λ q l h. relocked-occupied ws p b lt q ∙ x .leftward .taken q l h;
+          };
       above = x .above;
       inside = x .inside;
-      taken = λ q l h. relocked-occupied ws p b lt q ∙ x .taken q l h
+      taken = λ q l h. relocked-occupied ws p b lt q ∙ x .taken q l h;
     }

@@ -14,7 +14,7 @@ use Rattle.rules.specs.declared.Task.{Task}
 use Rattle.rules.specs.Word.{Word, lockWord, isVoid, isLock}
 use Rattle.rules.specs.Shape.{homes, remainders, keys, rightGuard}
 use Rattle.rules.specs.Entry.{Entry, split}
-use Rattle.rules.specs.Table.{at, entriesBetween}
+use Rattle.rules.specs.Table.{at, occupied, entriesBetween}
 use Rattle.rules.specs.Lay.{holds}
 use Rattle.rules.specs.Record.{homePlace, toPhase, withHand, withGoal, withAnswer}
 use Rattle.rules.specs.Give.{taskAt}
@@ -22,6 +22,10 @@ use Rattle.rules.specs.Phase as phase
 use Rattle.rules.specs.Phase.{to, smaller, markOf, readable, handOf, goalOf, readEntries}
 use Rattle.theory.specs.Dealt.{and-both, and-left, and-right}
 use Rattle.theory.specs.Gaps as gaps
+use Rattle.theory.specs.Gaps.{AllTaken}
+use Rattle.theory.specs.Places.{occupied-at}
+use Rattle.together.specs.Frames.{occupied-same}
+use Rattle.together.specs.Facts.{between-taken}
 use Rattle.together.specs.Invariant.{Looked, Ready, Owns, by-left, by-right, Reserves, Unfinished, Inv, Stage, has-read, frees-left}
 use Rattle.together.specs.Invariant.{ends-found, ends-full}
 use Rattle.together.specs.Update.{Steps}
@@ -30,168 +34,187 @@ use Rattle.together.specs.Around.{Around, around}
 use Rattle.together.specs.Walk.{Walked, Effect, keeps, step-by, home-inside, looked-as, weight-low, quiet-low}
 
 module _ {sh : Shape} {ws : List Word} {ts : List Task} {laid : List Word} {shown : List Entry}
-  (low : remainders sh ≤ 4096) (inv : Inv sh ws ts laid shown) (i : ℕ) (lt : i < length ts)
-  (p : taskAt ts i .phase ≡ 7) (k : taskAt ts i .key < keys sh) (x : Looked sh ws (taskAt ts i))
-  (left-held : at ws (taskAt ts i .left) ≡ lockWord) (right-held : at ws (taskAt ts i .right) ≡ lockWord)
+    (low : remainders sh ≤ 4096) (inv : Inv sh ws ts laid shown) (i : ℕ) (lt : i < length ts)
+    (p : taskAt ts i .phase ≡ 7) (k : taskAt ts i .key < keys sh) (x : Looked sh ws (taskAt ts i))
+    (left-held : at ws (taskAt ts i .left) ≡ lockWord) (right-held : at ws (taskAt ts i .right) ≡ lockWord)
   where
-  abbrev t : Task
-  t = taskAt ts i
+    abbrev t : Task
+    t = taskAt ts i
 
-  abbrev e : Entry
-  e = split sh (t .key)
+    abbrev e : Entry
+    e = split sh (t .key)
 
-  abbrev es : List Entry
-  es = entriesBetween laid (t .left) (t .right)
+    abbrev es : List Entry
+    es = entriesBetween laid (t .left) (t .right)
 
-  see : Around sh ws laid shown t
-  see = around low inv i lt (omega arith) (omega arith) k x left-held right-held
+    see : Around sh ws laid shown t
+    see = around low inv i lt (omega arith) (omega arith) k x left-held right-held
 
-  lock-is : {w : Word} → w ≡ lockWord → isLock w ≡ true
-  unfolding isLock isVoid
-  lock-is h = ap isLock h
+    lock-is : {w : Word} → w ≡ lockWord → isLock w ≡ true
+    unfolding isLock isVoid
+    lock-is h = ap isLock h
 
-  can-read : readable sh ws t ≡ true
-  unfolding readable
-  can-read =
-      and-both
-      _
-      _
-      (and-both _ _ (and-both _ _ (lock-is left-held) (lock-is right-held)) (see .taken))
-      (see .sound)
+    can-read : readable sh ws t ≡ true
+    unfolding readable
+    can-read =
+        and-both
+        _
+        _
+        (and-both _ _ (and-both _ _ (lock-is left-held) (lock-is right-held)) (see .taken))
+        (see .sound)
 
-  -- the read step, on the entries as they are laid
-  due : phase.read sh ws t ≡ to (readEntries sh t e es) ws
-  unfolding phase.read
-  due = rw (can-read, see .entries)
+    -- the read step, on the entries as they are laid
+    due : phase.read sh ws t ≡ to (readEntries sh t e es) ws
+    unfolding phase.read
+    due = rw (can-read, see .entries)
 
-  -- a step from phase 7 that keeps both ends
-  kept : (t′ : Task) → 7 ≤ t′ .phase → t′ .phase ≤ 11 → t′ .left ≡ t .left → t′ .right ≡ t .right → (t′ .phase ≤ 8) ⊎ (11 ≤ t′ .phase) → Stage sh ws laid shown t′ → Steps sh ws ts laid shown i t′ ws laid shown
-  kept t′ a b l r c stage =
-      still
-      i
-      t′
-      low
-      inv
-      stage
-      (λ q o. there q o)
-      (λ q o. back q o)
-      (λ s. (record { from-7 = omega arith; to-10 = omega arith }, l, r))
-      (λ q (u : Unfinished t q). absurd (omega (arith, u .from-9)))
-    where
-      there : (q : ℕ) → Owns t q → Owns t′ q
-      there q (by-left c d f) = by-left (omega arith) (omega arith) (f ∙ sym l)
-      there q (by-right c d f) = by-right (omega arith) (omega arith) (f ∙ sym r)
-      back : (q : ℕ) → Owns t′ q → Owns t q
-      back q (by-left c d f) = by-left (omega arith) (omega arith) (f ∙ l)
-      back q (by-right c d f) = by-right (omega arith) (omega arith) (f ∙ r)
+    -- a step from phase 7 that keeps both ends
+    kept : (t′ : Task) → 7 ≤ t′ .phase → t′ .phase ≤ 11 → t′ .left ≡ t .left → t′ .right ≡ t .right → (t′ .phase ≤ 8) ⊎ (11 ≤ t′ .phase) → Stage sh ws laid shown t′ → Steps sh ws ts laid shown i t′ ws laid shown
+    kept t′ a b l r c stage =
+        still
+        i
+        t′
+        low
+        inv
+        stage
+        (λ q o. there q o)
+        (λ q o. back q o)
+        (λ s. (record { from-7 = omega arith; to-10 = omega arith }, l, r))
+        (λ q (u : Unfinished t q). absurd (omega (arith, u .from-9)))
+      where
+        there : (q : ℕ) → Owns t q → Owns t′ q
+        there q (by-left c d f) = by-left (omega arith) (omega arith) (f ∙ sym l)
+        there q (by-right c d f) = by-right (omega arith) (omega arith) (f ∙ sym r)
 
-  -- the key is there
-  walk-found : holds e es ≡ true → Walked sh ws ts laid shown i
-  unfolding readEntries homePlace
-  walk-found h =
-      record {
-        next = next;
-        words = ws;
-        laid-after = laid;
-        shown-after = shown;
-        step = step-by low inv i lt 7 (omega arith) (omega arith) p (due ∙ rw h);
-        shows =
-          kept next (omega arith) (omega arith) refl refl (inr (omega arith))
-          (frees-left refl k (looked-as t next refl refl refl x) (ends-found refl (sym (see .same) ∙ h) left-held right-held));
-        same-key = refl;
-        ends = λ c. absurd (omega arith);
-        effect = keeps (sym (weight-low t (omega arith)))
-      }
-    where
-      next : Task
-      next = toPhase 11 (withAnswer 1 t)
+        back : (q : ℕ) → Owns t′ q → Owns t q
+        back q (by-left c d f) = by-left (omega arith) (omega arith) (f ∙ l)
+        back q (by-right c d f) = by-right (omega arith) (omega arith) (f ∙ r)
 
-  -- both ends are guards: full
-  walk-full :
-    holds e es ≡ false →
-    (eqb (t .left) 0 && eqb (t .right) (rightGuard sh)) ≡ true → Walked sh ws ts laid shown i
-  unfolding readEntries
-  walk-full h guards =
-      record {
-        next = next;
-        words = ws;
-        laid-after = laid;
-        shown-after = shown;
-        step = step-by low inv i lt 7 (omega arith) (omega arith) p (due ∙ rw (h, guards));
-        shows =
-          kept next (omega arith) (omega arith) refl refl (inr (omega arith))
-          (frees-left refl k (looked-as t next refl refl refl x) (ends-full refl left-held right-held));
-        same-key = refl;
-        ends = λ c. absurd (omega arith);
-        effect = keeps (sym (weight-low t (omega arith)))
-      }
-    where
-      next : Task
-      next = toPhase 11 (withAnswer 3 t)
+    -- the key is there
+    walk-found : holds e es ≡ true → Walked sh ws ts laid shown i
+    unfolding readEntries homePlace
+    walk-found h =
+        record {
+          next = next;
+          words = ws;
+          laid-after = laid;
+          shown-after = shown;
+          step = step-by low inv i lt 7 (omega arith) (omega arith) p (due ∙ rw h);
+          shows =
+              kept next (omega arith) (omega arith) refl refl (inr (omega arith))
+              (frees-left refl k (looked-as t next refl refl refl x) (ends-found refl (sym (see .same) ∙ h) left-held right-held));
+          same-key = refl;
+          ends = λ c. absurd (omega arith);
+          begun = omega arith;
+          full = λ (h : _≡_ {A = ℕ} 1 3). absurd (omega arith);
+          effect = keeps (sym (weight-low t (omega arith)));
+        }
+      where
+        next : Task
+        next = toPhase 11 (withAnswer 1 t)
 
-  abbrev reading : Task
-  reading = toPhase 8 (withHand (handOf t) (withGoal (goalOf t (smaller e es)) (markOf e es) t))
+    -- between two guards all is occupied
+    all-taken : (eqb (t .left) 0 && eqb (t .right) (rightGuard sh)) ≡ true → AllTaken sh (occupied laid)
+    unfolding rightGuard
+    all-taken guards q home =
+        let l = eqb-true (t .left) 0 (and-left (eqb (t .left) 0) _ guards) in
+        let g = eqb-true (t .right) (homes sh + 1) (and-right (eqb (t .left) 0) _ guards) in
+        occupied-at laid q
+        ∙ occupied-same laid ws q (sym (inv .places))
+        ∙ between-taken x q (omega (arith, home .first)) (omega (arith, home .last))
 
-  is-ready :
-    holds e es ≡ false → (eqb (t .left) 0 && eqb (t .right) (rightGuard sh)) ≡ false → Ready sh laid shown reading
-  unfolding handOf goalOf rightGuard homePlace
-  is-ready h open-end = go (eqb (t .left) 0) refl
-    where
-      inner : (1 ≤ homePlace sh t) × (homePlace sh t ≤ homes sh)
-      inner = home-inside low inv i lt k
-      new : holds e shown ≡ false
-      new = sym (see .same) ∙ h
-      go : (b : Bool) → eqb (t .left) 0 ≡ b → Ready sh laid shown reading
-      go true at-guard =
-          let zero-left = eqb-true (t .left) 0 at-guard in
-          let apart = eqb-false (t .right) (homes sh + 1) (rw at-guard at open-end) in
-          record {
-            side = gaps.right;
-            fills = zero-left;
-            room = record { first = omega (arith, x .above); last = omega (arith, x .inside, apart) };
-            hand = ap (λ (b : Bool). cond b (t .right) (t .left)) at-guard;
-            goal = ap (λ (b : Bool). cond b (smaller e es + 1) (t .left + smaller e es)) at-guard ∙ omega arith;
-            mark = refl;
-            new = new
-          }
-      go false apart =
-          let away = eqb-false (t .left) 0 apart in
-          record {
-            side = gaps.left;
-            fills = away;
-            room = record { first = omega arith; last = omega (arith, x .leftward .below, inner) };
-            hand = ap (λ (b : Bool). cond b (t .right) (t .left)) apart;
-            goal = ap (λ (b : Bool). cond b (smaller e es + 1) (t .left + smaller e es)) apart;
-            mark = refl;
-            new = new
-          }
+    -- both ends are guards: full
+    walk-full :
+        holds e es ≡ false →
+        (eqb (t .left) 0 && eqb (t .right) (rightGuard sh)) ≡ true → Walked sh ws ts laid shown i
+    unfolding readEntries
+    walk-full h guards =
+        record {
+          next = next;
+          words = ws;
+          laid-after = laid;
+          shown-after = shown;
+          step = step-by low inv i lt 7 (omega arith) (omega arith) p (due ∙ rw (h, guards));
+          shows =
+              kept next (omega arith) (omega arith) refl refl (inr (omega arith))
+              (frees-left refl k (looked-as t next refl refl refl x) (ends-full refl left-held right-held));
+          same-key = refl;
+          ends = λ c. absurd (omega arith);
+          begun = omega arith;
+          full = λ a. inr (all-taken guards, sym (see .same) ∙ h);
+          effect = keeps (sym (weight-low t (omega arith)));
+        }
+      where
+        next : Task
+        next = toPhase 11 (withAnswer 3 t)
 
-  -- the key is new, and there is room: the fill may begin
-  walk-ready :
-    holds e es ≡ false →
-    (eqb (t .left) 0 && eqb (t .right) (rightGuard sh)) ≡ false → Walked sh ws ts laid shown i
-  unfolding readEntries
-  walk-ready h open-end =
-      record {
-        next = reading;
-        words = ws;
-        laid-after = laid;
-        shown-after = shown;
-        step = step-by low inv i lt 7 (omega arith) (omega arith) p (due ∙ rw (h, open-end));
-        shows =
-          kept reading (omega arith) (omega arith) refl refl (inl (omega arith))
-          (has-read refl k (looked-as t reading refl refl refl x) left-held right-held (is-ready h open-end));
-        same-key = refl;
-        ends = λ c. absurd (omega arith);
-        effect = quiet-low low inv i lt reading (omega arith) (omega arith)
-      }
+    abbrev reading : Task
+    reading = toPhase 8 (withHand (handOf t) (withGoal (goalOf t (smaller e es)) (markOf e es) t))
 
-  pub walk-read : Walked sh ws ts laid shown i
-  walk-read = go (holds e es) (eqb (t .left) 0 && eqb (t .right) (rightGuard sh)) refl refl
-    where
-      go :
-        (b c : Bool) →
-        holds e es ≡ b → (eqb (t .left) 0 && eqb (t .right) (rightGuard sh)) ≡ c → Walked sh ws ts laid shown i
-      go true c h g = walk-found h
-      go false true h g = walk-full h g
-      go false false h g = walk-ready h g
+    is-ready :
+        holds e es ≡ false → (eqb (t .left) 0 && eqb (t .right) (rightGuard sh)) ≡ false → Ready sh laid shown reading
+    unfolding handOf goalOf rightGuard homePlace
+    is-ready h open-end = go (eqb (t .left) 0) refl
+      where
+        inner : (1 ≤ homePlace sh t) × (homePlace sh t ≤ homes sh)
+        inner = home-inside low inv i lt k
+
+        new : holds e shown ≡ false
+        new = sym (see .same) ∙ h
+
+        go : (b : Bool) → eqb (t .left) 0 ≡ b → Ready sh laid shown reading
+        go true at-guard =
+            let zero-left = eqb-true (t .left) 0 at-guard in
+            let apart = eqb-false (t .right) (homes sh + 1) (rw at-guard at open-end) in
+            record {
+              side = gaps.right;
+              fills = zero-left;
+              room = record { first = omega (arith, x .above); last = omega (arith, x .inside, apart) };
+              hand = ap (λ (b : Bool). cond b (t .right) (t .left)) at-guard;
+              goal = ap (λ (b : Bool). cond b (smaller e es + 1) (t .left + smaller e es)) at-guard ∙ omega arith;
+              mark = refl;
+              new = new;
+            }
+        go false apart =
+            let away = eqb-false (t .left) 0 apart in
+            record {
+              side = gaps.left;
+              fills = away;
+              room = record { first = omega arith; last = omega (arith, x .leftward .below, inner) };
+              hand = ap (λ (b : Bool). cond b (t .right) (t .left)) apart;
+              goal = ap (λ (b : Bool). cond b (smaller e es + 1) (t .left + smaller e es)) apart;
+              mark = refl;
+              new = new;
+            }
+
+    -- the key is new, and there is room: the fill may begin
+    walk-ready :
+        holds e es ≡ false →
+        (eqb (t .left) 0 && eqb (t .right) (rightGuard sh)) ≡ false → Walked sh ws ts laid shown i
+    unfolding readEntries
+    walk-ready h open-end =
+        record {
+          next = reading;
+          words = ws;
+          laid-after = laid;
+          shown-after = shown;
+          step = step-by low inv i lt 7 (omega arith) (omega arith) p (due ∙ rw (h, open-end));
+          shows =
+              kept reading (omega arith) (omega arith) refl refl (inl (omega arith))
+              (has-read refl k (looked-as t reading refl refl refl x) left-held right-held (is-ready h open-end));
+          same-key = refl;
+          ends = λ c. absurd (omega arith);
+          begun = omega arith;
+          full = λ h. inl h;
+          effect = quiet-low low inv i lt reading (omega arith) (omega arith);
+        }
+
+    pub walk-read : Walked sh ws ts laid shown i
+    walk-read = go (holds e es) (eqb (t .left) 0 && eqb (t .right) (rightGuard sh)) refl refl
+      where
+        go :
+            (b c : Bool) →
+            holds e es ≡ b → (eqb (t .left) 0 && eqb (t .right) (rightGuard sh)) ≡ c → Walked sh ws ts laid shown i
+        go true c h g = walk-found h
+        go false true h g = walk-full h g
+        go false false h g = walk-ready h g

@@ -61,9 +61,9 @@ word-of e l =
 
 -- the words strictly between two places
 pub between-same :
-  (ws vs : List Word) (l r : ℕ) →
-  r ≤ length ws →
-  length ws ≡ length vs → ((p : ℕ) → l < p → p < r → at ws p ≡ at vs p) → between ws l r ≡ between vs l r
+    (ws vs : List Word) (l r : ℕ) →
+    r ≤ length ws →
+    length ws ≡ length vs → ((p : ℕ) → l < p → p < r → at ws p ≡ at vs p) → between ws l r ≡ between vs l r
 between-same ws vs l r le size alike =
     ext-getD
     zeroWord
@@ -76,8 +76,8 @@ between-same ws vs l r le size alike =
 
 -- where finishing is seen through unlocked words
 pub finish-at :
-  (ws : List Word) (hand goal mark home q : ℕ) →
-  unlock (at (finish ws hand goal mark home) q) ≡ at (finish (map unlock ws) hand goal mark home) q
+    (ws : List Word) (hand goal mark home q : ℕ) →
+    unlock (at (finish ws hand goal mark home) q) ≡ at (finish (map unlock ws) hand goal mark home) q
 finish-at ws hand goal mark home q =
     sym (at-unlocked (finish ws hand goal mark home) q) ∙ ap (λ (vs : List Word). at vs q) (finish-unlock ws hand goal mark home)
 
@@ -96,20 +96,20 @@ fills-as gaps.right t t′ e f = e ∙ f
 
 -- finishing, for two tables that agree between a task's ends, locks aside
 pub finish-same :
-  (sh : Shape) (ws vs : List Word) (t : Task) (side : Side) →
-  length ws ≡ places sh →
-  length vs ≡ places sh →
-  Looked sh ws t →
-  from side (t .left) ≤ t .hand →
-  t .hand < upTo side (t .right) →
-  from side (t .left) ≤ t .goal →
-  t .goal < upTo side (t .right) →
-  (t .mark ≡ 1 → from side (t .left) < t .goal) →
-  ((p : ℕ) → Within (t .left) (t .right) p → unlock (at ws p) ≡ unlock (at vs p)) →
-  (q : ℕ) →
-  Within (t .left) (t .right) q →
-  unlock (at (finish ws (t .hand) (t .goal) (t .mark) (homePlace sh t)) q)
-  ≡ unlock (at (finish vs (t .hand) (t .goal) (t .mark) (homePlace sh t)) q)
+    (sh : Shape) (ws vs : List Word) (t : Task) (side : Side) →
+    length ws ≡ places sh →
+    length vs ≡ places sh →
+    Looked sh ws t →
+    from side (t .left) ≤ t .hand →
+    t .hand < upTo side (t .right) →
+    from side (t .left) ≤ t .goal →
+    t .goal < upTo side (t .right) →
+    (t .mark ≡ 1 → from side (t .left) < t .goal) →
+    ((p : ℕ) → Within (t .left) (t .right) p → unlock (at ws p) ≡ unlock (at vs p)) →
+    (q : ℕ) →
+    Within (t .left) (t .right) q →
+    unlock (at (finish ws (t .hand) (t .goal) (t .mark) (homePlace sh t)) q)
+    ≡ unlock (at (finish vs (t .hand) (t .goal) (t .mark) (homePlace sh t)) q)
 unfolding places rightGuard
 finish-same sh ws vs t side size size′ look hl hh gl gh closes alike q near =
     finish-at ws (t .hand) (t .goal) (t .mark) (homePlace sh t) q
@@ -136,166 +136,166 @@ finish-same sh ws vs t side size size′ look hl hh gl gh closes alike q near =
 
 -- ---- stability
 module _ {sh : Shape} {ws laid : List Word} {shown : List Entry} {ws′ laid′ : List Word} {shown′ : List Entry}
-  {Touched : ℕ → Type 0} (f : Frame sh ws laid shown ws′ laid′ shown′ Touched) (u : Task)
-  (a : LetsAlone ws ws′ Touched u)
+    {Touched : ℕ → Type 0} (f : Frame sh ws laid shown ws′ laid′ shown′ Touched) (u : Task)
+    (a : LetsAlone ws ws′ Touched u)
   where
-  pub left-stable : LookedLeft sh ws u → LookedLeft sh ws′ u
-  left-stable x = record { below = x .below; taken = λ q low high. f .grows q (x .taken q low high) }
+    pub left-stable : LookedLeft sh ws u → LookedLeft sh ws′ u
+    left-stable x = record { below = x .below; taken = λ q low high. f .grows q (x .taken q low high) }
 
-  pub looked-stable : Looked sh ws u → Looked sh ws′ u
-  looked-stable x =
-      record {
-        leftward = left-stable (x .leftward);
-        above = x .above;
-        inside = x .inside;
-        taken = λ q low high. f .grows q (x .taken q low high)
-      }
+    pub looked-stable : Looked sh ws u → Looked sh ws′ u
+    looked-stable x =
+        record {
+          leftward = left-stable (x .leftward);
+          above = x .above;
+          inside = x .inside;
+          taken = λ q low high. f .grows q (x .taken q low high);
+        }
 
-  end-stable : (p : ℕ) → Owns u p → at ws p ≡ lockWord → at ws′ p ≡ lockWord
-  end-stable p o e =
-      word-of
-      (f .words p (a .ends p o (ap (λ (w : Word). w .occupied) e)) ∙ ap unlock e)
-      (a .locks p o ∙ ap (λ (w : Word). w .lock) e)
+    end-stable : (p : ℕ) → Owns u p → at ws p ≡ lockWord → at ws′ p ≡ lockWord
+    end-stable p o e =
+        word-of
+        (f .words p (a .ends p o (ap (λ (w : Word). w .occupied) e)) ∙ ap unlock e)
+        (a .locks p o ∙ ap (λ (w : Word). w .lock) e)
 
-  filled-stable : (p : ℕ) → Owns u p → FilledEnd ws p → FilledEnd ws′ p
-  filled-stable p o e = record { taken = f .grows p (e .taken); kept = a .locks p o ∙ e .kept }
+    filled-stable : (p : ℕ) → Owns u p → FilledEnd ws p → FilledEnd ws′ p
+    filled-stable p o e = record { taken = f .grows p (e .taken); kept = a .locks p o ∙ e .kept }
 
-  -- both ends of a task that owns both
-  owns-end : (side : Side) → 7 ≤ u .phase → u .phase ≤ 11 → Owns u (end side (u .left) (u .right))
-  owns-end gaps.left low high = by-left (omega arith) high refl
-  owns-end gaps.right low high = by-right low (omega arith) refl
+    -- both ends of a task that owns both
+    owns-end : (side : Side) → 7 ≤ u .phase → u .phase ≤ 11 → Owns u (end side (u .left) (u .right))
+    owns-end gaps.left low high = by-left (omega arith) high refl
+    owns-end gaps.right low high = by-right low (omega arith) refl
 
-  entries-stable :
-    Reserves u →
-    Looked sh ws u → entriesBetween laid′ (u .left) (u .right) ≡ entriesBetween laid (u .left) (u .right)
-  unfolding entriesBetween places rightGuard
-  entries-stable r x =
-      ap
-      (λ (vs : List Word). deal (virginPlaces (suc (u .left)) vs) vs)
-      (between-same
-      laid′
-      laid
-      (u .left)
-      (u .right)
-      (omega (arith, f .laid-size′, x .inside))
-      (f .laid-size′ ∙ sym (f .laid-size))
-      (λ p low high. f .laid-words p (a .stretch r p (omega arith, omega arith))))
+    entries-stable :
+        Reserves u →
+        Looked sh ws u → entriesBetween laid′ (u .left) (u .right) ≡ entriesBetween laid (u .left) (u .right)
+    unfolding entriesBetween places rightGuard
+    entries-stable r x =
+        ap
+        (λ (vs : List Word). deal (virginPlaces (suc (u .left)) vs) vs)
+        (between-same
+        laid′
+        laid
+        (u .left)
+        (u .right)
+        (omega (arith, f .laid-size′, x .inside))
+        (f .laid-size′ ∙ sym (f .laid-size))
+        (λ p low high. f .laid-words p (a .stretch r p (omega arith, omega arith))))
 
-  ready-stable :
-    Reserves u →
-    Looked sh ws u →
-    holds (split sh (u .key)) shown′ ≡ holds (split sh (u .key)) shown →
-    Ready sh laid shown u → Ready sh laid′ shown′ u
-  ready-stable r x fresh y =
-      record {
-        side = y .side;
-        fills = y .fills;
-        room = y .room;
-        hand = y .hand;
-        goal =
-          y .goal
-          ∙ ap (λ (es : List Entry). from (y .side) (u .left) + smaller (split sh (u .key)) es) (sym (entries-stable r x));
-        mark = y .mark ∙ ap (markOf (split sh (u .key))) (sym (entries-stable r x));
-        new = fresh ∙ y .new
-      }
+    ready-stable :
+        Reserves u →
+        Looked sh ws u →
+        holds (split sh (u .key)) shown′ ≡ holds (split sh (u .key)) shown →
+        Ready sh laid shown u → Ready sh laid′ shown′ u
+    ready-stable r x fresh y =
+        record {
+          side = y .side;
+          fills = y .fills;
+          room = y .room;
+          hand = y .hand;
+          goal =
+              y .goal
+              ∙ ap (λ (es : List Entry). from (y .side) (u .left) + smaller (split sh (u .key)) es) (sym (entries-stable r x));
+          mark = y .mark ∙ ap (markOf (split sh (u .key))) (sym (entries-stable r x));
+          new = fresh ∙ y .new;
+        }
 
-  moving-stable : 9 ≤ u .phase → u .phase ≤ 10 → Looked sh ws u → Moving sh ws laid shown u → Moving sh ws′ laid′ shown′ u
-  moving-stable low high x y =
-      record {
-        side = y .side;
-        fills = y .fills;
-        room = y .room;
-        filled = filled-stable _ (owns-end (y .side) (omega arith) (omega arith)) (y .filled);
-        waiting = end-stable _ (owns-end (other (y .side)) (omega arith) (omega arith)) (y .waiting);
-        hand-low = y .hand-low;
-        hand-high = y .hand-high;
-        goal-low = y .goal-low;
-        goal-high = y .goal-high;
-        mark = y .mark;
-        closes = y .closes;
-        finished = λ q near.
-          finish-same
-          sh
-          ws′
-          ws
-          u
-          (y .side)
-          (f .size′)
-          (f .size)
-          (looked-stable x)
-          (y .hand-low)
-          (y .hand-high)
-          (y .goal-low)
-          (y .goal-high)
-          (y .closes)
-          (λ p i. f .words p (a .stretch reserved p i))
-          q
-          near
-          ∙ y .finished q near
-          ∙ sym (f .laid-words q (a .stretch reserved q near));
-        put = f .keeps (split sh (u .key)) (y .put)
-      }
-    where
-      reserved : Reserves u
-      reserved = record { from-7 = omega arith; to-10 = high }
+    moving-stable : 9 ≤ u .phase → u .phase ≤ 10 → Looked sh ws u → Moving sh ws laid shown u → Moving sh ws′ laid′ shown′ u
+    moving-stable low high x y =
+        record {
+          side = y .side;
+          fills = y .fills;
+          room = y .room;
+          filled = filled-stable _ (owns-end (y .side) (omega arith) (omega arith)) (y .filled);
+          waiting = end-stable _ (owns-end (other (y .side)) (omega arith) (omega arith)) (y .waiting);
+          hand-low = y .hand-low;
+          hand-high = y .hand-high;
+          goal-low = y .goal-low;
+          goal-high = y .goal-high;
+          mark = y .mark;
+          closes = y .closes;
+          finished = λ q near.
+              finish-same
+              sh
+              ws′
+              ws
+              u
+              (y .side)
+              (f .size′)
+              (f .size)
+              (looked-stable x)
+              (y .hand-low)
+              (y .hand-high)
+              (y .goal-low)
+              (y .goal-high)
+              (y .closes)
+              (λ p i. f .words p (a .stretch reserved p i))
+              q
+              near
+              ∙ y .finished q near
+              ∙ sym (f .laid-words q (a .stretch reserved q near));
+          put = f .keeps (split sh (u .key)) (y .put);
+        }
+      where
+        reserved : Reserves u
+        reserved = record { from-7 = omega arith; to-10 = high }
 
-  ends-stable : u .phase ≡ 11 → Ends sh ws shown u → Ends sh ws′ shown′ u
-  ends-stable p (ends-found n h x y) =
-      ends-found
-      n
-      (f .keeps (split sh (u .key)) h)
-      (end-stable (u .left) (owns-end gaps.left (omega arith) (omega arith)) x)
-      (end-stable (u .right) (owns-end gaps.right (omega arith) (omega arith)) y)
-  ends-stable p (ends-full n x y) =
-      ends-full
-      n
-      (end-stable (u .left) (owns-end gaps.left (omega arith) (omega arith)) x)
-      (end-stable (u .right) (owns-end gaps.right (omega arith) (omega arith)) y)
-  ends-stable p (ends-inserted n h side k x y) =
-      ends-inserted
-      n
-      (f .keeps (split sh (u .key)) h)
-      side
-      k
-      (filled-stable _ (owns-end side (omega arith) (omega arith)) x)
-      (end-stable _ (owns-end (other side) (omega arith) (omega arith)) y)
+    ends-stable : u .phase ≡ 11 → Ends sh ws shown u → Ends sh ws′ shown′ u
+    ends-stable p (ends-found n h x y) =
+        ends-found
+        n
+        (f .keeps (split sh (u .key)) h)
+        (end-stable (u .left) (owns-end gaps.left (omega arith) (omega arith)) x)
+        (end-stable (u .right) (owns-end gaps.right (omega arith) (omega arith)) y)
+    ends-stable p (ends-full n x y) =
+        ends-full
+        n
+        (end-stable (u .left) (owns-end gaps.left (omega arith) (omega arith)) x)
+        (end-stable (u .right) (owns-end gaps.right (omega arith) (omega arith)) y)
+    ends-stable p (ends-inserted n h side k x y) =
+        ends-inserted
+        n
+        (f .keeps (split sh (u .key)) h)
+        side
+        k
+        (filled-stable _ (owns-end side (omega arith) (omega arith)) x)
+        (end-stable _ (owns-end (other side) (omega arith) (omega arith)) y)
 
-  right-stable : u .phase ≡ 12 → RightEnd sh ws shown u → RightEnd sh ws′ shown′ u
-  right-stable p (right-found n h x) =
-      right-found n (f .keeps (split sh (u .key)) h) (end-stable (u .right) (by-right (omega arith) (omega arith) refl) x)
-  right-stable p (right-full n x) = right-full n (end-stable (u .right) (by-right (omega arith) (omega arith) refl) x)
-  right-stable p (right-waiting n h x) =
-      right-waiting n (f .keeps (split sh (u .key)) h) (end-stable (u .right) (by-right (omega arith) (omega arith) refl) x)
-  right-stable p (right-filled n h x) =
-      right-filled n (f .keeps (split sh (u .key)) h) (filled-stable (u .right) (by-right (omega arith) (omega arith) refl) x)
+    right-stable : u .phase ≡ 12 → RightEnd sh ws shown u → RightEnd sh ws′ shown′ u
+    right-stable p (right-found n h x) =
+        right-found n (f .keeps (split sh (u .key)) h) (end-stable (u .right) (by-right (omega arith) (omega arith) refl) x)
+    right-stable p (right-full n x) = right-full n (end-stable (u .right) (by-right (omega arith) (omega arith) refl) x)
+    right-stable p (right-waiting n h x) =
+        right-waiting n (f .keeps (split sh (u .key)) h) (end-stable (u .right) (by-right (omega arith) (omega arith) refl) x)
+    right-stable p (right-filled n h x) =
+        right-filled n (f .keeps (split sh (u .key)) h) (filled-stable (u .right) (by-right (omega arith) (omega arith) refl) x)
 
-  pub stage-stable :
-    (u .phase ≡ 8 → holds (split sh (u .key)) shown′ ≡ holds (split sh (u .key)) shown) →
-    Stage sh ws laid shown u → Stage sh ws′ laid′ shown′ u
-  stage-stable fresh (at-rest p) = at-rest p
-  stage-stable fresh (at-home p k) = at-home p k
-  stage-stable fresh (looks-left p k x) = looks-left p k (left-stable x)
-  stage-stable fresh (looks-right p q k x) = looks-right p q k (looked-stable x)
-  stage-stable fresh (owns-left p q k x e) =
-      owns-left p q k (looked-stable x) (end-stable (u .left) (by-left p (omega arith) refl) e)
-  stage-stable fresh (owns-both p k x e g) =
-      owns-both
-      p
-      k
-      (looked-stable x)
-      (end-stable (u .left) (owns-end gaps.left (omega arith) (omega arith)) e)
-      (end-stable (u .right) (owns-end gaps.right (omega arith) (omega arith)) g)
-  stage-stable fresh (has-read p k x e g y) =
-      has-read
-      p
-      k
-      (looked-stable x)
-      (end-stable (u .left) (owns-end gaps.left (omega arith) (omega arith)) e)
-      (end-stable (u .right) (owns-end gaps.right (omega arith) (omega arith)) g)
-      (ready-stable (record { from-7 = omega arith; to-10 = omega arith }) x (fresh p) y)
-  stage-stable fresh (moving p k x n y) =
-      moving p k (looked-stable x) n (moving-stable (omega arith) (omega arith) x y)
-  stage-stable fresh (marking p k x n y) =
-      marking p k (looked-stable x) n (moving-stable (omega arith) (omega arith) x y)
-  stage-stable fresh (frees-left p k x y) = frees-left p k (looked-stable x) (ends-stable p y)
-  stage-stable fresh (frees-right p k x y) = frees-right p k (looked-stable x) (right-stable p y)
+    pub stage-stable :
+        (u .phase ≡ 8 → holds (split sh (u .key)) shown′ ≡ holds (split sh (u .key)) shown) →
+        Stage sh ws laid shown u → Stage sh ws′ laid′ shown′ u
+    stage-stable fresh (at-rest p) = at-rest p
+    stage-stable fresh (at-home p k) = at-home p k
+    stage-stable fresh (looks-left p k x) = looks-left p k (left-stable x)
+    stage-stable fresh (looks-right p q k x) = looks-right p q k (looked-stable x)
+    stage-stable fresh (owns-left p q k x e) =
+        owns-left p q k (looked-stable x) (end-stable (u .left) (by-left p (omega arith) refl) e)
+    stage-stable fresh (owns-both p k x e g) =
+        owns-both
+        p
+        k
+        (looked-stable x)
+        (end-stable (u .left) (owns-end gaps.left (omega arith) (omega arith)) e)
+        (end-stable (u .right) (owns-end gaps.right (omega arith) (omega arith)) g)
+    stage-stable fresh (has-read p k x e g y) =
+        has-read
+        p
+        k
+        (looked-stable x)
+        (end-stable (u .left) (owns-end gaps.left (omega arith) (omega arith)) e)
+        (end-stable (u .right) (owns-end gaps.right (omega arith) (omega arith)) g)
+        (ready-stable (record { from-7 = omega arith; to-10 = omega arith }) x (fresh p) y)
+    stage-stable fresh (moving p k x n y) =
+        moving p k (looked-stable x) n (moving-stable (omega arith) (omega arith) x y)
+    stage-stable fresh (marking p k x n y) =
+        marking p k (looked-stable x) n (moving-stable (omega arith) (omega arith) x y)
+    stage-stable fresh (frees-left p k x y) = frees-left p k (looked-stable x) (ends-stable p y)
+    stage-stable fresh (frees-right p k x y) = frees-right p k (looked-stable x) (right-stable p y)

@@ -47,21 +47,21 @@ pub record Steps (sh : Shape) (ws : List Word) (ts : List Task) (laid : List Wor
   pub small : (p : ℕ) → at ws′ p .remainder < 4096
   pub stage : Stage sh ws′ laid′ shown′ t′
   pub others :
-    (u : Task) → Apart (taskAt ts i) u → Stage sh ws laid shown u → Stage sh ws′ laid′ shown′ u
+      (u : Task) → Apart (taskAt ts i) u → Stage sh ws laid shown u → Stage sh ws′ laid′ shown′ u
   pub apart : (u : Task) → Apart (taskAt ts i) u → Stage sh ws laid shown u → Apart t′ u
   pub owner :
-    (p : ℕ) → at ws′ p .lock ≡ true → Owns t′ p ⊎ ((at ws p .lock ≡ true) × (Owns (taskAt ts i) p → Owns t′ p))
+      (p : ℕ) → at ws′ p .lock ≡ true → Owns t′ p ⊎ ((at ws p .lock ≡ true) × (Owns (taskAt ts i) p → Owns t′ p))
   pub settled :
-    (p : ℕ) →
-    (Unfinished t′ p → ⊥) →
-    ((j : ℕ) → j < length ts → j ≢ i → Unfinished (taskAt ts j) p → ⊥) → unlock (at ws′ p) ≡ at laid′ p
+      (p : ℕ) →
+      (Unfinished t′ p → ⊥) →
+      ((j : ℕ) → j < length ts → j ≢ i → Unfinished (taskAt ts j) p → ⊥) → unlock (at ws′ p) ≡ at laid′ p
 
 pub inv-update :
-  {sh : Shape} {ws : List Word} {ts : List Task} {laid : List Word} {shown : List Entry} (i : ℕ) {t′ : Task}
-  {ws′ laid′ : List Word} {shown′ : List Entry} →
-  i < length ts →
-  Inv sh ws ts laid shown →
-  Steps sh ws ts laid shown i t′ ws′ laid′ shown′ → Inv sh ws′ (set ts i t′) laid′ shown′
+    {sh : Shape} {ws : List Word} {ts : List Task} {laid : List Word} {shown : List Entry} (i : ℕ) {t′ : Task}
+    {ws′ laid′ : List Word} {shown′ : List Entry} →
+    i < length ts →
+    Inv sh ws ts laid shown →
+    Steps sh ws ts laid shown i t′ ws′ laid′ shown′ → Inv sh ws′ (set ts i t′) laid′ shown′
 inv-update {sh} {ws} {ts} {laid} {shown} i {t′} {ws′} {laid′} {shown′} lt inv s =
     record {
       plain = s .plain;
@@ -70,31 +70,37 @@ inv-update {sh} {ws} {ts} {laid} {shown} i {t′} {ws′} {laid′} {shown′} l
       stage = λ j l. stage-at j (under j l) (same-or-not i j);
       apart = λ j k l m n. apart-at j k (under j l) (under k m) n (same-or-not i j) (same-or-not i k);
       owner = λ p locked. owner-at p (s .owner p locked);
-      settled = λ p none. s .settled p (own p none) (λ j l n x. none j (over j l) (there (λ (t : Task). Unfinished t p) j n x))
+      settled = λ p none. s .settled p (own p none) (λ j l n x. none j (over j l) (there (λ (t : Task). Unfinished t p) j n x));
     }
   where
     under : (j : ℕ) → j < length (set ts i t′) → j < length ts
     under j l = omega (arith, length-set ts i t′)
+
     over : (j : ℕ) → j < length ts → j < length (set ts i t′)
     over j l = omega (arith, length-set ts i t′)
+
     here : (P : Task → Type 0) → P t′ → P (taskAt (set ts i t′) i)
     here P x = subst P (sym (task-same ts i t′ lt)) x
+
     there : (P : Task → Type 0) (j : ℕ) → j ≢ i → P (taskAt ts j) → P (taskAt (set ts i t′) j)
     there P j n x = subst P (sym (task-other ts i j t′ n)) x
+
     stage-at : (j : ℕ) → j < length ts → (j ≡ i) ⊎ (j ≢ i) → Stage sh ws′ laid′ shown′ (taskAt (set ts i t′) j)
     stage-at j l (inl e) =
         subst (λ (k : ℕ). Stage sh ws′ laid′ shown′ (taskAt (set ts i t′) k)) (sym e) (here (Stage sh ws′ laid′ shown′) (s .stage))
     stage-at j l (inr n) =
         there (Stage sh ws′ laid′ shown′) j n (s .others (taskAt ts j) (inv .apart i j lt l (λ e. n (sym e))) (inv .stage j l))
+
     beside : (j : ℕ) → j < length ts → j ≢ i → Apart t′ (taskAt ts j)
     beside j l n = s .apart (taskAt ts j) (inv .apart i j lt l (λ e. n (sym e))) (inv .stage j l)
+
     apart-at :
-      (j k : ℕ) →
-      j < length ts →
-      k < length ts →
-      j ≢ k →
-      (j ≡ i) ⊎ (j ≢ i) →
-      (k ≡ i) ⊎ (k ≢ i) → Apart (taskAt (set ts i t′) j) (taskAt (set ts i t′) k)
+        (j k : ℕ) →
+        j < length ts →
+        k < length ts →
+        j ≢ k →
+        (j ≡ i) ⊎ (j ≢ i) →
+        (k ≡ i) ⊎ (k ≢ i) → Apart (taskAt (set ts i t′) j) (taskAt (set ts i t′) k)
     apart-at j k l m n (inl e) (inl f) = absurd (n (e ∙ sym f))
     apart-at j k l m n (inl e) (inr f) =
         subst₂
@@ -110,22 +116,24 @@ inv-update {sh} {ws} {ts} {laid} {shown} i {t′} {ws′} {laid′} {shown′} l
         (apart-sym (beside j l e))
     apart-at j k l m n (inr e) (inr f) =
         subst₂ Apart (sym (task-other ts i j t′ e)) (sym (task-other ts i k t′ f)) (inv .apart j k l m n)
+
     owner-at :
-      (p : ℕ) →
-      Owns t′ p ⊎ ((at ws p .lock ≡ true) × (Owns (taskAt ts i) p → Owns t′ p)) →
-      (j : ℕ) × (j < length (set ts i t′)) × Owns (taskAt (set ts i t′) j) p
+        (p : ℕ) →
+        Owns t′ p ⊎ ((at ws p .lock ≡ true) × (Owns (taskAt ts i) p → Owns t′ p)) →
+        (j : ℕ) × (j < length (set ts i t′)) × Owns (taskAt (set ts i t′) j) p
     owner-at p (inl o) = (i, over i lt, here (λ (t : Task). Owns t p) o)
     owner-at p (inr x) = go (inv .owner p (x .0))
       where
         go :
-          (j : ℕ) × (j < length ts) × Owns (taskAt ts j) p →
-          (j : ℕ) × (j < length (set ts i t′)) × Owns (taskAt (set ts i t′) j) p
+            (j : ℕ) × (j < length ts) × Owns (taskAt ts j) p →
+            (j : ℕ) × (j < length (set ts i t′)) × Owns (taskAt (set ts i t′) j) p
         go y = or-else (same-or-not i (y .0))
           where
             or-else :
-              (y .0 ≡ i) ⊎ (y .0 ≢ i) → (j : ℕ) × (j < length (set ts i t′)) × Owns (taskAt (set ts i t′) j) p
+                (y .0 ≡ i) ⊎ (y .0 ≢ i) → (j : ℕ) × (j < length (set ts i t′)) × Owns (taskAt (set ts i t′) j) p
             or-else (inl e) =
                 (i, over i lt, here (λ (t : Task). Owns t p) (x .1 (subst (λ (j : ℕ). Owns (taskAt ts j) p) e (y .2))))
             or-else (inr n) = (y .0, over (y .0) (y .1), there (λ (t : Task). Owns t p) (y .0) n (y .2))
+
     own : (p : ℕ) → ((j : ℕ) → j < length (set ts i t′) → Unfinished (taskAt (set ts i t′) j) p → ⊥) → Unfinished t′ p → ⊥
     own p none x = none i (over i lt) (here (λ (t : Task). Unfinished t p) x)

@@ -1,0 +1,465 @@
+-- What holds of every world that a course reaches: `Fair`. It begins so (`fair-begin`), and each action keeps it (`fair-act`).
+-- Assumes nothing.
+use Prim.Native.Nat.{ℕ, zero, suc, _+_, _*_, _≤_, _<_}
+use mathlib.Core.Path.{_≡_, refl, sym, ap, ap₂, _∙_, subst}
+use mathlib.Core.Logic.{_⊎_, _≢_, inl, inr}
+use mathlib.Core.Bool.{Bool, true, false, not, cond, _&&_, _||_, true≢false, false≢true}
+use mathlib.Core.List.{List, [], _∷_, _++_, map}
+use native.Mathlib.Omega.{arith}
+use native.Mathlib.Nat.{zero-add}
+use lib.ListN.{length, getD, set, length-set}
+use lib.Seq.{set-getD}
+use lib.Dec.{eqb, leb, ltb}
+use borrow.Author.Tests.{eqb-true, eqb-false, eq-eqb, ne-eqb, le-leb, leb-true, lt-ltb, ltb-true, le-ltb}
+use Rattle.rules.specs.declared.Shape.{Shape}
+use Rattle.rules.specs.declared.Task.{Task}
+use Rattle.rules.specs.Lists.{bitOf, count, all, any}
+use Rattle.rules.specs.Word.{Word, zeroWord}
+use Rattle.rules.specs.Bytes.{wordsOf, bytesOf}
+use Rattle.rules.specs.Shape.{shapeOf, inRange, remainders, keys, places, goodTable, fitsLength}
+use Rattle.rules.specs.Entry.{Entry, split, sameEntry}
+use Rattle.rules.specs.Table.{at, occupied, entries, locked}
+use Rattle.rules.specs.Lay.{holds, insert}
+use Rattle.rules.specs.Build.{puts}
+use Rattle.rules.specs.Answer.{says, refuses, Leaves, leaves}
+use Rattle.rules.specs.Record.{busy, atRest, fitsBusy, fits}
+use Rattle.rules.specs.Give.{given, noTask, taskAt, goodTask, giveTo, storedAt, give}
+use Rattle.rules.specs.Step as rules-step
+use Rattle.rules.specs.Step.{Lent, Stepped, refused, stepOf, lentAfter, step}
+use Rattle.words.specs.Range.{InRange, good-table, remainders-high}
+use Rattle.words.specs.Layout.{bytes-length, words-of-bytes, remainders-small}
+use Rattle.theory.specs.Run.{unlock}
+use Rattle.theory.specs.Perm as perm
+use Rattle.theory.specs.Perm.{All}
+use Rattle.theory.specs.Insert.{same-eq, holds-insert}
+use Rattle.theory.specs.Dealt.{and-left, and-right, and-both, or-left, or-right}
+use Rattle.theory.specs.Joined.{or-none}
+use Rattle.theory.specs.Keys.{listed}
+use Rattle.theory.specs.Building.{State, after-put}
+use Rattle.demands.specs.Terms.{SoundTable, PlainTable, InKeys, entriesOf}
+use Rattle.demands.specs.Lent.{in-range-of, low-of, size-of, state-of, bytes-small}
+use Rattle.demands.specs.Proof2.{same-split}
+use Rattle.demands.specs.Proof3.{listed-split}
+use Rattle.together.specs.Invariant.{Owns, by-left, by-right, Reserves, Apart, Unfinished, Inv, Stage, at-rest, at-home}
+use Rattle.together.specs.Update.{Steps, inv-update, task-same, task-other, same-or-not}
+use Rattle.together.specs.Facts.{in-order, words-size}
+use Rattle.together.specs.Fitting.{stage-fits}
+use Rattle.together.specs.Quiet.{still}
+use Rattle.together.specs.Walk.{Walked, Effect, keeps, commits, weight, Answered, says-full, says-shown}
+use Rattle.together.specs.Course.{walk}
+use Rattle.together.specs.Commit.{held-still, plain-unlocked}
+use Rattle.together.specs.Machine.{Action, gives, steps, Said, World, begin, afterGive, afterStep, act, course, quiet}
+use Rattle.together.specs.Machine.{timesGiven, timesSaid, timesInserted}
+use Rattle.together.specs.History.{timesLoaded, timesBusy, heard, tally-step, answers-step, give-tally, quiet-counts, rest-phase}
+
+-- an answer: full, or found or inserted with its key shown
+pub data Means (sh : Shape) (shown : List Entry) (s : Said) : Type 0 where
+  means-full : s .answer ≡ 3 → Means sh shown s
+  means-shown : (s .answer ≡ 1) ⊎ (s .answer ≡ 2) → holds (split sh (s .key)) shown ≡ true → Means sh shown s
+
+pub record Fair (m r : ℕ) (start : List ℕ) (w : World) : Type 0 where
+  pub good : goodTable (shapeOf m r) (length (w .table)) ≡ true
+  pub small : (i : ℕ) → getD (w .table) i 0 < 256
+  pub few : length (w .tasks) ≤ 16
+  pub laid : List Word
+  pub shown : List Entry
+  pub inv : Inv (shapeOf m r) (wordsOf (w .table)) (w .tasks) laid shown
+  -- the keys put so far, in order: the table laid is the starting one with these put, and shows no others beside the starting ones
+  pub put : List Entry
+  pub chain : laid ≡ puts (shapeOf m r) (wordsOf start) put
+  pub shown-is : (x : Entry) → holds x shown ≡ (holds x (entries (wordsOf start)) || holds x put)
+  pub put-new : (x : Entry) → holds x put ≡ true → holds x (entries (wordsOf start)) ≡ false
+  pub put-given : (x : Entry) → holds x put ≡ true → holds x (entriesOf (shapeOf m r) (w .given)) ≡ true
+  -- a key is shown once: as a starting key, as an inserted one, or as one that a task has put and not yet said
+  pub tally :
+      (key : ℕ) →
+      bitOf (holds (split (shapeOf m r) key) (entries (wordsOf start))) + timesInserted key (w .said)
+      + timesLoaded key (w .tasks)
+      ≡ bitOf (holds (split (shapeOf m r) key) shown)
+  -- each accepted give is answered, or its task is busy
+  pub answers : (key : ℕ) → timesGiven key (w .given) ≡ timesSaid key (w .said) + timesBusy key (w .tasks)
+  pub task-given :
+      (i : ℕ) →
+      i < length (w .tasks) →
+      1 ≤ taskAt (w .tasks) i .phase → taskAt (w .tasks) i .phase ≤ 12 → listed (taskAt (w .tasks) i .key) (w .given) ≡ true
+  pub in-keys : InKeys (shapeOf m r) (w .given)
+  pub meaning : All (Means (shapeOf m r) shown) (w .said)
+
+-- ---- the beginning
+unlocked-at : (ws : List Word) (p : ℕ) → locked ws ≡ false → at ws p .lock ≡ false
+unfolding locked any
+unlocked-at [] p free = refl
+unlocked-at (w ∷ ws) zero free = go (w .lock) free
+  where
+    go : (b : Bool) → (b || locked ws) ≡ false → b ≡ false
+    go true h = h
+    go false h = refl
+unlocked-at (w ∷ ws) (suc p) free = unlocked-at ws p (go (w .lock) free)
+  where
+    go : (b : Bool) → (b || locked ws) ≡ false → locked ws ≡ false
+    go true h = absurd (true≢false h)
+    go false h = h
+
+rest-at : (ts : List Task) (i : ℕ) → i < length ts → all atRest ts ≡ true → (taskAt ts i .phase ≡ 0) ⊎ (taskAt ts i .phase ≡ 13)
+unfolding all
+rest-at [] i lt h = absurd (omega arith)
+rest-at (t ∷ ts) zero lt h = rest-phase t (and-left (atRest t) _ h)
+rest-at (t ∷ ts) (suc i) lt h = rest-at ts i (omega arith) (and-right (atRest t) _ h)
+
+rest-owns : (t : Task) (p : ℕ) → (t .phase ≡ 0) ⊎ (t .phase ≡ 13) → Owns t p → ⊥
+rest-owns t p (inl e) (by-left a b c) = omega arith
+rest-owns t p (inr e) (by-left a b c) = omega arith
+rest-owns t p (inl e) (by-right a b c) = omega arith
+rest-owns t p (inr e) (by-right a b c) = omega arith
+
+rest-reserves : (t : Task) → (t .phase ≡ 0) ⊎ (t .phase ≡ 13) → Reserves t → ⊥
+rest-reserves t (inl e) r = omega (arith, r .from-7)
+rest-reserves t (inr e) r = omega (arith, r .to-10)
+
+inv-begin :
+    {sh : Shape} {ws : List Word} {shown : List Entry} (ts : List Task) →
+    State sh ws shown → ((p : ℕ) → at ws p .remainder < 4096) → all atRest ts ≡ true → Inv sh ws ts ws shown
+inv-begin {sh} {ws} ts s small rest =
+    record {
+      plain = s;
+      places = refl;
+      small = small;
+      stage = λ i lt. at-rest (rest-at ts i lt rest);
+      apart = λ i j l k n.
+          record {
+            owners = λ p x y. rest-owns (taskAt ts i) p (rest-at ts i l rest) x;
+            stretches = λ x y p a b. rest-reserves (taskAt ts i) (rest-at ts i l rest) x;
+          };
+      owner = λ p is-locked. absurd (true≢false (sym is-locked ∙ unlocked-at ws p (s .free)));
+      settled = λ p none. plain-unlocked p s;
+    }
+
+pub fair-begin :
+    {m r : ℕ} {bytes : List ℕ} (ts : List Task) →
+    PlainTable m r bytes → length ts ≤ 16 → all atRest ts ≡ true → Fair m r bytes (begin bytes ts)
+unfolding puts timesInserted timesSaid timesGiven count all holds any
+fair-begin {m} {r} {bytes} ts t few rest =
+    record {
+      good = t .whole .good;
+      small = t .whole .small;
+      few = few;
+      laid = wordsOf bytes;
+      shown = entries (wordsOf bytes);
+      inv = inv-begin ts (state-of t) (remainders-small bytes) rest;
+      put = [];
+      chain = refl;
+      shown-is = λ x. sym (or-none (holds x (entries (wordsOf bytes))));
+      put-new = λ x h. absurd (false≢true h);
+      put-given = λ x h. absurd (false≢true h);
+      tally = λ key. omega (arith, quiet-counts key ts rest .0);
+      answers = λ key. omega (arith, quiet-counts key ts rest .1);
+      task-given = λ i lt a b. absurd (never i (rest-at ts i lt rest) a b);
+      in-keys = refl;
+      meaning = perm.none;
+    }
+  where
+    never : (i : ℕ) → (taskAt ts i .phase ≡ 0) ⊎ (taskAt ts i .phase ≡ 13) → 1 ≤ taskAt ts i .phase → taskAt ts i .phase ≤ 12 → ⊥
+    never i (inl e) a b = omega arith
+    never i (inr e) a b = omega arith
+
+-- ---- a give
+-- who is not busy, under the invariant, is at rest
+stage-rest :
+    {sh : Shape} {ws laid : List Word} {shown : List Entry} (t : Task) →
+    length laid ≡ places sh → Stage sh ws laid shown t → busy t ≡ false → (t .phase ≡ 0) ⊎ (t .phase ≡ 13)
+unfolding fits
+stage-rest {sh} {ws} {laid} {shown} t size s idle = go (atRest t) refl (stage-fits {ws = ws} {shown = shown} size t s)
+  where
+    go : (b : Bool) → atRest t ≡ b → fits sh t ≡ true → (t .phase ≡ 0) ⊎ (t .phase ≡ 13)
+    go true e h = rest-phase t e
+    go false e h = absurd (false≢true (sym (ap₂ (λ (a b : Bool). a || (b && fitsBusy sh t)) e idle) ∙ h))
+
+-- the record of an accepted give
+inv-give :
+    {sh : Shape} {ws : List Word} {ts : List Task} {laid : List Word} {shown : List Entry} (i key : ℕ) →
+    remainders sh ≤ 4096 →
+    i < length ts →
+    key < keys sh →
+    (taskAt ts i .phase ≡ 0) ⊎ (taskAt ts i .phase ≡ 13) →
+    Inv sh ws ts laid shown → Inv sh ws (set ts i (given key)) laid shown
+unfolding given
+inv-give {sh} {ws} {ts} {laid} {shown} i key low lt small rest inv =
+    inv-update
+    i
+    lt
+    inv
+    (still
+    i
+    (given key)
+    low
+    inv
+    (at-home refl small)
+    (λ p o. absurd (rest-owns (taskAt ts i) p rest o))
+    (λ p o. absurd (no-hands p o))
+    (λ (r : Reserves (given key)). absurd (omega (arith, r .from-7)))
+    (λ p u. absurd (unmoved p rest u)))
+  where
+    no-hands : (p : ℕ) → Owns (given key) p → ⊥
+    no-hands p (by-left a b c) = omega arith
+    no-hands p (by-right a b c) = omega arith
+
+    unmoved : (p : ℕ) → (taskAt ts i .phase ≡ 0) ⊎ (taskAt ts i .phase ≡ 13) → Unfinished (taskAt ts i) p → ⊥
+    unmoved p (inl e) u = omega (arith, u .from-9)
+    unmoved p (inr e) u = omega (arith, u .to-10)
+
+-- what changes when a key is given: the record, and the history by one key
+given-world : World → ℕ → ℕ → World
+given-world w i key =
+    record {
+      table = w .table;
+      tasks = set (w .tasks) i (given key);
+      given = key ∷ w .given;
+      said = w .said;
+    }
+
+fair-given :
+    {m r : ℕ} {start : List ℕ} {w : World} (i key : ℕ) →
+    Fair m r start w →
+    i < length (w .tasks) →
+    key < keys (shapeOf m r) → busy (taskAt (w .tasks) i) ≡ false → Fair m r start (given-world w i key)
+unfolding given-world given timesGiven count all holds any listed
+fair-given {m} {r} {start} {w} i key f lt small idle =
+    record {
+      good = f .good;
+      small = f .small;
+      few = omega (arith, length-set (w .tasks) i (given key), f .few);
+      laid = f .laid;
+      shown = f .shown;
+      inv = inv-give i key low lt small rest (f .inv);
+      put = f .put;
+      chain = f .chain;
+      shown-is = f .shown-is;
+      put-new = f .put-new;
+      put-given = λ x h. or-right (sameEntry x (split (shapeOf m r) key)) _ (f .put-given x h);
+      tally = λ k. omega (arith, f .tally k, give-tally k (w .tasks) i (given key) lt rest refl .0);
+      answers = λ k.
+          omega (arith, f .answers k, give-tally k (w .tasks) i (given key) lt rest refl .1, ap bitOf (eqb-sym k key));
+      task-given = λ j l a b. or-else j l a b (same-or-not i j);
+      in-keys = and-both _ _ (lt-ltb key (keys (shapeOf m r)) small) (f .in-keys);
+      meaning = f .meaning;
+    }
+  where
+    low : remainders (shapeOf m r) ≤ 4096
+    low = remainders-high (shapeOf m r) (good-table (shapeOf m r) (length (w .table)) (f .good) .0)
+
+    rest : (taskAt (w .tasks) i .phase ≡ 0) ⊎ (taskAt (w .tasks) i .phase ≡ 13)
+    rest = stage-rest (taskAt (w .tasks) i) (f .inv .plain .size) (f .inv .stage i lt) idle
+
+    eqb-sym : (a b : ℕ) → eqb a b ≡ eqb b a
+    eqb-sym a b = go (eqb b a) refl
+      where
+        go : (c : Bool) → eqb b a ≡ c → eqb a b ≡ c
+        go true e = eq-eqb a b (sym (eqb-true b a e))
+        go false e = ne-eqb a b (λ same. eqb-false b a e (sym same))
+
+    or-else :
+        (j : ℕ) →
+        j < length (set (w .tasks) i (given key)) →
+        1 ≤ taskAt (set (w .tasks) i (given key)) j .phase →
+        taskAt (set (w .tasks) i (given key)) j .phase ≤ 12 →
+        (j ≡ i) ⊎ (j ≢ i) →
+        (eqb (taskAt (set (w .tasks) i (given key)) j .key) key || listed (taskAt (set (w .tasks) i (given key)) j .key) (w .given)) ≡ true
+    or-else j l a b (inl e) =
+        or-left
+        _
+        _
+        (eq-eqb
+        (taskAt (set (w .tasks) i (given key)) j .key)
+        key
+        (ap (λ (k : ℕ). taskAt (set (w .tasks) i (given key)) k .key) e
+        ∙ ap (λ (t : Task). t .key) (task-same (w .tasks) i (given key) lt)))
+    or-else j l a b (inr n) =
+        let same = task-other (w .tasks) i j (given key) n in
+        or-right
+        (eqb (taskAt (set (w .tasks) i (given key)) j .key) key)
+        _
+        (ap (λ (t : Task). listed (t .key) (w .given)) same
+        ∙ f .task-given
+        j
+        (omega (arith, length-set (w .tasks) i (given key)))
+        (subst (λ (t : Task). 1 ≤ t .phase) same a)
+        (subst (λ (t : Task). t .phase ≤ 12) same b))
+
+good-range : (sh : Shape) (n : ℕ) → goodTable sh n ≡ true → inRange sh ≡ true
+unfolding goodTable
+good-range sh n h = and-left (inRange sh) _ h
+
+-- give, accepted or refused
+pub fair-give :
+    {m r : ℕ} {start : List ℕ} {w : World} (i key : ℕ) → Fair m r start w → Fair m r start (act m r w (gives i key))
+unfolding act give goodTask giveTo given-world
+fair-give {m} {r} {start} {w} i key f =
+    go (ltb key (keys (shapeOf m r))) (ltb i (length (w .tasks))) (busy (taskAt (w .tasks) i)) refl refl refl
+  where
+    range : inRange (shapeOf m r) ≡ true
+    range = good-range (shapeOf m r) (length (w .table)) (f .good)
+
+    sixteen : leb (length (w .tasks)) 16 ≡ true
+    sixteen = le-leb (length (w .tasks)) 16 (f .few)
+
+    by-answer :
+        {x : Leaves (List Task)} → give m r key (w .tasks) i ≡ x → Fair m r start (afterGive w key x) → Fair m r start (act m r w (gives i key))
+    by-answer e g = subst (λ (x : Leaves (List Task)). Fair m r start (afterGive w key x)) (sym e) g
+
+    go :
+        (a b c : Bool) →
+        ltb key (keys (shapeOf m r)) ≡ a →
+        ltb i (length (w .tasks)) ≡ b → busy (taskAt (w .tasks) i) ≡ c → Fair m r start (act m r w (gives i key))
+    go false b c x y z = by-answer {x = leaves (refuses 2) (w .tasks)} (rw (range, x)) f
+    go true false c x y z = by-answer {x = leaves (refuses 3) (w .tasks)} (rw (range, x, sixteen, y)) f
+    go true true true x y z =
+        by-answer
+        {x = leaves (refuses 4) (w .tasks)}
+        (rw (range, x, sixteen, y, z) (ap (leaves (refuses 4)) (set-getD (w .tasks) i noTask)))
+        f
+    go true true false x y z =
+        by-answer
+        {x = leaves (says 0) (set (w .tasks) i (given key))}
+        (rw (range, x, sixteen, y, z))
+        (fair-given i key f (ltb-true i (length (w .tasks)) y) (ltb-true key (keys (shapeOf m r)) x) z)
+
+-- ---- a step
+puts-snoc : (sh : Shape) (ws : List Word) (es : List Entry) (e : Entry) → puts sh ws (es ++ (e ∷ [])) ≡ after-put sh (puts sh ws es) e
+unfolding puts
+puts-snoc sh ws [] e = refl
+puts-snoc sh ws (f ∷ es) e = puts-snoc sh (after-put sh ws f) es e
+
+holds-last : (x e : Entry) (es : List Entry) → holds x (es ++ (e ∷ [])) ≡ (sameEntry x e || holds x es)
+unfolding holds any
+holds-last x e [] = refl
+holds-last x e (f ∷ es) =
+    ap (λ (b : Bool). sameEntry x f || b) (holds-last x e es) ∙ swap (sameEntry x f) (sameEntry x e) (holds x es)
+  where
+    swap : (a b c : Bool) → (a || (b || c)) ≡ (b || (a || c))
+    swap true true c = refl
+    swap true false c = refl
+    swap false true c = refl
+    swap false false c = refl
+
+-- what a step leaves of the keys put and of the tally
+record After (m r : ℕ) (start : List ℕ) (w : World) (i : ℕ) (t′ : Task) (shown : List Entry) (laid′ : List Word)
+    (shown′ : List Entry) : Type 0 where
+  put : List Entry
+  chain : laid′ ≡ puts (shapeOf m r) (wordsOf start) put
+  shown-is : (x : Entry) → holds x shown′ ≡ (holds x (entries (wordsOf start)) || holds x put)
+  put-new : (x : Entry) → holds x put ≡ true → holds x (entries (wordsOf start)) ≡ false
+  put-given : (x : Entry) → holds x put ≡ true → holds x (entriesOf (shapeOf m r) (w .given)) ≡ true
+  tally :
+      (key : ℕ) →
+      bitOf (holds (split (shapeOf m r) key) (entries (wordsOf start))) + timesInserted key (heard t′ (w .said))
+      + timesLoaded key (set (w .tasks) i t′)
+      ≡ bitOf (holds (split (shapeOf m r) key) shown′)
+  grows : (x : Entry) → holds x shown ≡ true → holds x shown′ ≡ true
+
+module _ {m r : ℕ} {start : List ℕ} {w : World} (f : Fair m r start w) (i : ℕ) (lt : i < length (w .tasks))
+    (first : 1 ≤ taskAt (w .tasks) i .phase) (last : taskAt (w .tasks) i .phase ≤ 12) (t′ : Task)
+    (after : t′ .phase ≤ 13) (same : t′ .key ≡ taskAt (w .tasks) i .key)
+  where
+    abbrev t : Task
+    t = taskAt (w .tasks) i
+
+    abbrev e : Entry
+    e = split (shapeOf m r) (t .key)
+
+    quiet-after : weight t′ ≡ weight t → After m r start w i t′ (f .shown) (f .laid) (f .shown)
+    quiet-after even =
+        record {
+          put = f .put;
+          chain = f .chain;
+          shown-is = f .shown-is;
+          put-new = f .put-new;
+          put-given = f .put-given;
+          tally = λ key.
+              omega (
+                arith,
+                f .tally key,
+                tally-step key (w .tasks) i t′ (w .said) lt last after same,
+                ap (λ (n : ℕ). cond (eqb (t .key) key) n 0) even,
+              );
+          grows = λ x h. h;
+        }
+
+    commit-after :
+        holds e (f .shown) ≡ false →
+        weight t ≡ 0 →
+        weight t′ ≡ 1 →
+        After m r start w i t′ (f .shown) (after-put (shapeOf m r) (f .laid) e) (insert e (f .shown))
+    commit-after new light heavy =
+        record {
+          put = f .put ++ (e ∷ []);
+          chain = ap (λ (vs : List Word). after-put (shapeOf m r) vs e) (f .chain) ∙ sym (puts-snoc (shapeOf m r) (wordsOf start) (f .put) e);
+          shown-is = λ x.
+              holds-insert x e (f .shown)
+              ∙ ap (λ (b : Bool). sameEntry x e || b) (f .shown-is x)
+              ∙ swap (sameEntry x e) (holds x (entries (wordsOf start))) (holds x (f .put))
+              ∙ ap (λ (b : Bool). holds x (entries (wordsOf start)) || b) (sym (holds-last x e (f .put)));
+          put-new = λ x h. fresh x (sameEntry x e) refl (sym (holds-last x e (f .put)) ∙ h);
+          put-given = λ x h. known x (sameEntry x e) refl (sym (holds-last x e (f .put)) ∙ h);
+          tally = λ key.
+              omega (
+                arith,
+                f .tally key,
+                tally-step key (w .tasks) i t′ (w .said) lt last after same,
+                weighed key,
+                one-more key,
+              );
+          grows = λ x h. held-still e x (f .shown) h;
+        }
+      where
+        swap : (a b c : Bool) → (a || (b || c)) ≡ (b || (a || c))
+        swap true true c = refl
+        swap true false c = refl
+        swap false true c = refl
+        swap false false c = refl
+
+        start-new : holds e (entries (wordsOf start)) ≡ false
+        start-new = first-false (holds e (entries (wordsOf start))) (holds e (f .put)) (sym (f .shown-is e) ∙ new)
+          where
+            first-false : (a b : Bool) → (a || b) ≡ false → a ≡ false
+            first-false true b h = h
+            first-false false b h = refl
+
+        fresh : (x : Entry) (b : Bool) → sameEntry x e ≡ b → (b || holds x (f .put)) ≡ true → holds x (entries (wordsOf start)) ≡ false
+        fresh x true k h = ap (λ (y : Entry). holds y (entries (wordsOf start))) (same-eq x e k) ∙ start-new
+        fresh x false k h = f .put-new x h
+
+        known : (x : Entry) (b : Bool) → sameEntry x e ≡ b → (b || holds x (f .put)) ≡ true → holds x (entriesOf (shapeOf m r) (w .given)) ≡ true
+        known x true k h =
+            ap (λ (y : Entry). holds y (entriesOf (shapeOf m r) (w .given))) (same-eq x e k)
+            ∙ sym (listed-split (shapeOf m r) (t .key) (w .given))
+            ∙ f .task-given i lt first last
+        known x false k h = f .put-given x h
+
+        weighed : (key : ℕ) → cond (eqb (t .key) key) (weight t) 0 + bitOf (eqb (t .key) key) ≡ cond (eqb (t .key) key) (weight t′) 0
+        weighed key = go (eqb (t .key) key)
+          where
+            go : (b : Bool) → cond b (weight t) 0 + bitOf b ≡ cond b (weight t′) 0
+            go true = omega arith
+            go false = omega arith
+
+        one-more : (key : ℕ) → bitOf (holds (split (shapeOf m r) key) (insert e (f .shown))) ≡ bitOf (eqb (t .key) key) + bitOf (holds (split (shapeOf m r) key) (f .shown))
+        one-more key =
+            ap bitOf (holds-insert (split (shapeOf m r) key) e (f .shown))
+            ∙ go (sameEntry (split (shapeOf m r) key) e) refl
+          where
+            go :
+                (b : Bool) →
+                sameEntry (split (shapeOf m r) key) e ≡ b →
+                bitOf (sameEntry (split (shapeOf m r) key) e || holds (split (shapeOf m r) key) (f .shown))
+                ≡ bitOf (eqb (t .key) key) + bitOf (holds (split (shapeOf m r) key) (f .shown))
+            go true k =
+                let here = eqb-true key (t .key) (sym (same-split (shapeOf m r) key (t .key)) ∙ k) in
+                ap (λ (b : Bool). bitOf (b || holds (split (shapeOf m r) key) (f .shown))) k
+                ∙ sym
+                (ap₂ (λ (a b : Bool). bitOf a + bitOf b) (eq-eqb (t .key) key (sym here)) (ap (λ (y : Entry). holds y (f .shown)) (same-eq (split (shapeOf m r) key) e k) ∙ new))
+            go false k =
+                let apart = eqb-false key (t .key) (sym (same-split (shapeOf m r) key (t .key)) ∙ k) in
+                ap (λ (b : Bool). bitOf (b || holds (split (shapeOf m r) key) (f .shown))) k
+                ∙ sym
+                (ap (λ (a : Bool). bitOf a + bitOf (holds (split (shapeOf m r) key) (f .shown))) (ne-eqb (t .key) key (λ z. apart (sym z)))
+                ∙ zero-add (bitOf (holds (split (shapeOf m r) key) (f .shown))))
