@@ -181,7 +181,7 @@ module _ {sh : Shape} {us : List Entry} {ws : List Word} {es : List Entry} (e : 
       }
 
   -- there is room
-  put-not-full : Inside es us → holds e us ≡ true → holds e es ≡ false → roomFor sh (occupied ws) (e .home) ≡ full → ⊥
+  pub put-not-full : Inside es us → holds e us ≡ true → holds e es ≡ false → roomFor sh (occupied ws) (e .home) ≡ full → ⊥
   unfolding places rightGuard
   put-not-full inside here h room =
       place≢full (sym (room-place (e .home) (table-guarded sh (t .size) (t .table)) fewer .1) ∙ room)

@@ -35,12 +35,15 @@ use Rattle.theory.specs.Insert.{same-eq, holds-insert}
 use Rattle.theory.specs.Dealt.{and-left, and-right, and-both, or-left, or-right}
 use Rattle.theory.specs.Joined.{or-none}
 use Rattle.theory.specs.Keys.{listed}
-use Rattle.theory.specs.Building.{State, after-put}
+use Rattle.theory.specs.Gaps.{HomePlace, AllTaken, full-room}
+use Rattle.theory.specs.Putting.{table-guarded}
+use Rattle.theory.specs.Building.{State, after-put, Roomy, Inside, put-not-full, in-home}
 use Rattle.demands.specs.Terms.{SoundTable, PlainTable, InKeys, entriesOf}
 use Rattle.demands.specs.Lent.{in-range-of, low-of, size-of, state-of, bytes-small}
 use Rattle.demands.specs.Proof2.{same-split}
 use Rattle.demands.specs.Proof3.{listed-split}
 use Rattle.together.specs.Invariant.{Owns, by-left, by-right, Reserves, Apart, Unfinished, Inv, Stage, at-rest, at-home}
+use Rattle.together.specs.Invariant.{looks-left, looks-right, owns-left, owns-both, has-read, moving, marking, frees-left, frees-right}
 use Rattle.together.specs.Update.{Steps, inv-update, task-same, task-other, same-or-not}
 use Rattle.together.specs.Facts.{in-order, words-size}
 use Rattle.together.specs.Fitting.{stage-fits}
@@ -56,6 +59,17 @@ use Rattle.together.specs.History.{timesLoaded, timesBusy, heard, tally-
 pub data Means (sh : Shape) (shown : List Entry) (s : Said) : Type 0 where
   means-full : s .answer ≡ 3 → Means sh shown s
   means-shown : (s .answer ≡ 1) ⊎ (s .answer ≡ 2) → holds (split sh (s .key)) shown ≡ true → Means sh shown s
+
+-- room, for the starting keys and those given, in a table of the shape
+pub record Spacious (m r : ℕ) (start given : List ℕ) (us : List Entry) : Type 0 where
+  pub room : Roomy (shapeOf m r) us
+  pub starts : Inside (entries (wordsOf start)) us
+  pub gives : Inside (entriesOf (shapeOf m r) given) us
+
+-- no answer full, said or about to be
+pub record NoneFull (ts : List Task) (said : List Said) : Type 0 where
+  pub of-busy : (i : ℕ) → i < length ts → 1 ≤ taskAt ts i .phase → taskAt ts i .phase ≤ 12 → taskAt ts i .answer ≢ 3
+  pub of-said : All (λ (s : Said). s .answer ≢ 3) said
 
 pub record Fair (m r : ℕ) (start : List ℕ) (w : World) : Type 0 where
   pub good : goodTable (shapeOf m r) (length (w .table)) ≡ true
@@ -84,6 +98,7 @@ pub record Fair (m r : ℕ) (start : List ℕ) (w : World) : Type 0 where
       1 ≤ taskAt (w .tasks) i .phase → taskAt (w .tasks) i .phase ≤ 12 → listed (taskAt (w .tasks) i .key) (w .given) ≡ true
   pub in-keys : InKeys (shapeOf m r) (w .given)
   pub meaning : All (Means (shapeOf m r) shown) (w .said)
+  pub none-full : (us : List Entry) → Spacious m r start (w .given) us → NoneFull (w .tasks) (w .said)
 
 -- ---- the beginning
 unlocked-at : (ws : List Word) (p : ℕ) → locked ws ≡ false → at ws p .lock ≡ false
@@ -156,6 +171,11 @@ fair-begin {m} {r} {bytes} ts t few rest =
       task-given = λ i lt a b. absurd (never i (rest-at ts i lt rest) a b);
       in-keys = refl;
       meaning = perm.none;
+      none-full = λ us space.
+          record {
+            of-busy = λ i lt a b full. never i (rest-at ts i lt rest) a b;
+            of-said = perm.none;
+          };
     }
   where
     never : (i : ℕ) → (taskAt ts i .phase ≡ 0) ⊎ (taskAt ts i .phase ≡ 13) → 1 ≤ taskAt ts i .phase → taskAt ts i .phase ≤ 12 → ⊥
@@ -242,6 +262,12 @@ fair-given {m} {r} {start} {w} i key f lt small idle =
       task-given = λ j l a b. or-else j l a b (same-or-not i j);
       in-keys = and-both _ _ (lt-ltb key (keys (shapeOf m r)) small) (f .in-keys);
       meaning = f .meaning;
+      none-full = λ us space.
+          let before = f .none-full us (sooner us space) in
+          record {
+            of-busy = λ j l a b. unfilled before j l a b (same-or-not i j);
+            of-said = before .of-said;
+          };
     }
   where
     low : remainders (shapeOf m r) ≤ 4096
@@ -249,6 +275,33 @@ fair-given {m} {r} {start} {w} i key f lt small idle =
 
     rest : (taskAt (w .tasks) i .phase ≡ 0) ⊎ (taskAt (w .tasks) i .phase ≡ 13)
     rest = stage-rest (taskAt (w .tasks) i) (f .inv .plain .size) (f .inv .stage i lt) idle
+
+    sooner : (us : List Entry) → Spacious m r start (key ∷ w .given) us → Spacious m r start (w .given) us
+    sooner us space =
+        record {
+          room = space .room;
+          starts = space .starts;
+          gives = λ x h. space .gives x (or-right (sameEntry x (split (shapeOf m r) key)) _ h);
+        }
+
+    unfilled :
+        NoneFull (w .tasks) (w .said) →
+        (j : ℕ) →
+        j < length (set (w .tasks) i (given key)) →
+        1 ≤ taskAt (set (w .tasks) i (given key)) j .phase →
+        taskAt (set (w .tasks) i (given key)) j .phase ≤ 12 →
+        (j ≡ i) ⊎ (j ≢ i) → taskAt (set (w .tasks) i (given key)) j .answer ≢ 3
+    unfilled before j l a b (inl e) full =
+        let no-answer : _≡_ {A = ℕ} 0 3 = sym (ap (λ (k : ℕ). taskAt (set (w .tasks) i (given key)) k .answer) e ∙ ap (λ (t : Task). t .answer) (task-same (w .tasks) i (given key) lt)) ∙ full in
+        omega (arith, no-answer)
+    unfilled before j l a b (inr n) full =
+        let same = task-other (w .tasks) i j (given key) n in
+        before .of-busy
+        j
+        (omega (arith, length-set (w .tasks) i (given key)))
+        (subst (λ (t : Task). 1 ≤ t .phase) same a)
+        (subst (λ (t : Task). t .phase ≤ 12) same b)
+        (sym (ap (λ (t : Task). t .answer) same) ∙ full)
 
     eqb-sym : (a b : ℕ) → eqb a b ≡ eqb b a
     eqb-sym a b = go (eqb b a) refl
@@ -463,3 +516,199 @@ module _ {m r : ℕ} {start : List ℕ} {w : World} (f : Fair m r start w) (i : 
                 ∙ sym
                 (ap (λ (a : Bool). bitOf a + bitOf (holds (split (shapeOf m r) key) (f .shown))) (ne-eqb (t .key) key (λ z. apart (sym z)))
                 ∙ zero-add (bitOf (holds (split (shapeOf m r) key) (f .shown))))
+
+-- ---- the world after a step
+abbrev stepped-world : World → ℕ → Task → List Word → World
+stepped-world w i t ws =
+    record { table = bytesOf ws; tasks = set (w .tasks) i t; given = w .given; said = heard t (w .said) }
+
+stage-last : {sh : Shape} {ws laid : List Word} {shown : List Entry} (t : Task) → Stage sh ws laid shown t → t .phase ≤ 13
+stage-last t (at-rest (inl e)) = omega arith
+stage-last t (at-rest (inr e)) = omega arith
+stage-last t (at-home p k) = omega arith
+stage-last t (looks-left p k x) = omega arith
+stage-last t (looks-right p q k x) = omega arith
+stage-last t (owns-left p q k x e) = omega arith
+stage-last t (owns-both p k x e f) = omega arith
+stage-last t (has-read p k x e f y) = omega arith
+stage-last t (moving p k x n y) = omega arith
+stage-last t (marking p k x n y) = omega arith
+stage-last t (frees-left p k x y) = omega arith
+stage-last t (frees-right p k x y) = omega arith
+
+module _ {m r : ℕ} {start : List ℕ} {w : World} (f : Fair m r start w) (i : ℕ) (lt : i < length (w .tasks))
+    (first : 1 ≤ taskAt (w .tasks) i .phase) (last : taskAt (w .tasks) i .phase ≤ 12)
+    (k : Walked (shapeOf m r) (wordsOf (w .table)) (w .tasks) (f .laid) (f .shown) i)
+  where
+    at-last : k .next .phase ≤ 13
+    at-last = stage-last (k .next) (k .shows .stage)
+
+    left-of : After m r start w i (k .next) (f .shown) (k .laid-after) (k .shown-after)
+    left-of = go (k .effect)
+      where
+        go :
+            {laid′ : List Word} {shown′ : List Entry} →
+            Effect (shapeOf m r) (taskAt (w .tasks) i) (k .next) (f .laid) (f .shown) laid′ shown′ →
+            After m r start w i (k .next) (f .shown) laid′ shown′
+        go (keeps even) = quiet-after f i lt first last (k .next) at-last (k .same-key) even
+        go (commits new light heavy) = commit-after f i lt first last (k .next) at-last (k .same-key) new light heavy
+
+    back : wordsOf (bytesOf (k .words)) ≡ k .words
+    back = words-of-bytes (k .words) (k .shows .small)
+
+    inv-after : Inv (shapeOf m r) (wordsOf (bytesOf (k .words))) (set (w .tasks) i (k .next)) (k .laid-after) (k .shown-after)
+    inv-after =
+        subst
+        (λ (ws : List Word). Inv (shapeOf m r) ws (set (w .tasks) i (k .next)) (k .laid-after) (k .shown-after))
+        (sym back)
+        (inv-update i lt (f .inv) (k .shows))
+
+    good-after : goodTable (shapeOf m r) (length (bytesOf (k .words))) ≡ true
+    unfolding goodTable fitsLength
+    good-after =
+        and-both
+        _
+        _
+        (good-range (shapeOf m r) (length (w .table)) (f .good))
+        (eq-eqb
+        _
+        _
+        (bytes-length (k .words)
+        ∙ ap (λ (n : ℕ). 2 * n) (words-size (remainders-high (shapeOf m r) (good-table (shapeOf m r) (length (w .table)) (f .good) .0)) (inv-update i lt (f .inv) (k .shows)))))
+
+    -- the stepped record's key, and every other's, was given
+    still-given :
+        (j : ℕ) →
+        j < length (set (w .tasks) i (k .next)) →
+        1 ≤ taskAt (set (w .tasks) i (k .next)) j .phase →
+        taskAt (set (w .tasks) i (k .next)) j .phase ≤ 12 →
+        (j ≡ i) ⊎ (j ≢ i) → listed (taskAt (set (w .tasks) i (k .next)) j .key) (w .given) ≡ true
+    still-given j l a b (inl e) =
+        ap
+        (λ (key : ℕ). listed key (w .given))
+        (ap (λ (n : ℕ). taskAt (set (w .tasks) i (k .next)) n .key) e
+        ∙ ap (λ (t : Task). t .key) (task-same (w .tasks) i (k .next) lt)
+        ∙ k .same-key)
+        ∙ f .task-given i lt first last
+    still-given j l a b (inr n) =
+        let same = task-other (w .tasks) i j (k .next) n in
+        ap (λ (t : Task). listed (t .key) (w .given)) same
+        ∙ f .task-given
+        j
+        (omega (arith, length-set (w .tasks) i (k .next)))
+        (subst (λ (t : Task). 1 ≤ t .phase) same a)
+        (subst (λ (t : Task). t .phase ≤ 12) same b)
+
+    -- answers said before mean what they meant; a new one what it should
+    meaning-after : All (Means (shapeOf m r) (k .shown-after)) (heard (k .next) (w .said))
+    meaning-after = go (eqb (k .next .phase) 13) refl
+      where
+        older : All (Means (shapeOf m r) (k .shown-after)) (w .said)
+        older = perm.all-map later (f .meaning)
+          where
+            later : (s : Said) → Means (shapeOf m r) (f .shown) s → Means (shapeOf m r) (k .shown-after) s
+            later s (means-full e) = means-full e
+            later s (means-shown e h) = means-shown e (left-of .grows (split (shapeOf m r) (s .key)) h)
+
+        meant : Answered (shapeOf m r) (k .shown-after) (k .next) → Means (shapeOf m r) (k .shown-after) (record { key = k .next .key; answer = k .next .answer })
+        meant (says-full e) = means-full e
+        meant (says-shown e h) = means-shown e h
+
+        go :
+            (b : Bool) →
+            eqb (k .next .phase) 13 ≡ b →
+            All (Means (shapeOf m r) (k .shown-after)) (cond b (record { key = k .next .key; answer = k .next .answer } ∷ w .said) (w .said))
+        go true e = perm.both (meant (k .ends (eqb-true (k .next .phase) 13 e))) older
+        go false e = older
+
+    -- with room for all keys nobody says full
+    not-full : (us : List Entry) → Spacious m r start (w .given) us → k .next .answer ≢ 3
+    not-full us space full = go (k .full full)
+      where
+        e : Entry
+        e = split (shapeOf m r) (taskAt (w .tasks) i .key)
+
+        here : holds e us ≡ true
+        here = space .gives e (sym (listed-split (shapeOf m r) (taskAt (w .tasks) i .key) (w .given)) ∙ f .task-given i lt first last)
+
+        inside : Inside (f .shown) us
+        inside x h = either (holds x (entries (wordsOf start))) refl (sym (f .shown-is x) ∙ h)
+          where
+            either : (b : Bool) → holds x (entries (wordsOf start)) ≡ b → (b || holds x (f .put)) ≡ true → holds x us ≡ true
+            either true y z = space .starts x y
+            either false y z = space .gives x (f .put-given x z)
+
+        go :
+            (taskAt (w .tasks) i .answer ≡ 3)
+            ⊎ (AllTaken (shapeOf m r) (occupied (f .laid)) × (holds (split (shapeOf m r) (taskAt (w .tasks) i .key)) (f .shown) ≡ false)) → ⊥
+        go (inl before) = f .none-full us space .of-busy i lt first last before
+        go (inr (every, new)) =
+            put-not-full
+            e
+            (space .room)
+            (f .inv .plain)
+            inside
+            here
+            new
+            (full-room (table-guarded (shapeOf m r) (f .inv .plain .size) (f .inv .plain .table)) (in-home e (space .room) here) every)
+
+    none-full-after : (us : List Entry) → Spacious m r start (w .given) us → NoneFull (set (w .tasks) i (k .next)) (heard (k .next) (w .said))
+    none-full-after us space =
+        record {
+          of-busy = λ j l a b. others j l a b (same-or-not i j);
+          of-said = go (eqb (k .next .phase) 13);
+        }
+      where
+        before : NoneFull (w .tasks) (w .said)
+        before = f .none-full us space
+
+        others :
+            (j : ℕ) →
+            j < length (set (w .tasks) i (k .next)) →
+            1 ≤ taskAt (set (w .tasks) i (k .next)) j .phase →
+            taskAt (set (w .tasks) i (k .next)) j .phase ≤ 12 →
+            (j ≡ i) ⊎ (j ≢ i) → taskAt (set (w .tasks) i (k .next)) j .answer ≢ 3
+        others j l a b (inl e) full =
+            not-full
+            us
+            space
+            (sym
+            (ap (λ (n : ℕ). taskAt (set (w .tasks) i (k .next)) n .answer) e
+            ∙ ap (λ (t : Task). t .answer) (task-same (w .tasks) i (k .next) lt))
+            ∙ full)
+        others j l a b (inr n) full =
+            let same = task-other (w .tasks) i j (k .next) n in
+            before .of-busy
+            j
+            (omega (arith, length-set (w .tasks) i (k .next)))
+            (subst (λ (t : Task). 1 ≤ t .phase) same a)
+            (subst (λ (t : Task). t .phase ≤ 12) same b)
+            (sym (ap (λ (t : Task). t .answer) same) ∙ full)
+
+        go : (b : Bool) → All (λ (s : Said). s .answer ≢ 3) (cond b (record { key = k .next .key; answer = k .next .answer } ∷ w .said) (w .said))
+        go true = perm.both (not-full us space) (before .of-said)
+        go false = before .of-said
+
+    fair-stepped : Fair m r start (stepped-world w i (k .next) (k .words))
+    fair-stepped =
+        record {
+          good = good-after;
+          small = bytes-small (k .words) (k .shows .small);
+          few = omega (arith, length-set (w .tasks) i (k .next), f .few);
+          laid = k .laid-after;
+          shown = k .shown-after;
+          inv = inv-after;
+          put = left-of .put;
+          chain = left-of .chain;
+          shown-is = left-of .shown-is;
+          put-new = left-of .put-new;
+          put-given = left-of .put-given;
+          tally = left-of .tally;
+          answers = λ key.
+              f .answers key
+              ∙ sym (answers-step key (w .tasks) i (k .next) (w .said) lt first last (k .begun) at-last (k .same-key));
+          task-given = λ j l a b. still-given j l a b (same-or-not i j);
+          in-keys = f .in-keys;
+          meaning = meaning-after;
+          none-full = none-full-after;
+        }
