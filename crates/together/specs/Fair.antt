@@ -10,7 +10,7 @@ use native.Mathlib.Nat.{zero-add}
 use lib.ListN.{length, getD, set, length-set}
 use lib.Seq.{set-getD}
 use lib.Dec.{eqb, leb, ltb}
-use borrow.Author.Tests.{eqb-true, eqb-false, eq-eqb, ne-eqb, le-leb, leb-true, lt-ltb, ltb-true, le-ltb}
+use borrow.Author.Tests.{eqb-true, eqb-false, eq-eqb, ne-eqb, le-leb, leb-true, lt-ltb, ltb-true, ltb-false, le-ltb}
 use Rattle.rules.specs.declared.Shape.{Shape}
 use Rattle.rules.specs.declared.Task.{Task}
 use Rattle.rules.specs.Lists.{bitOf, count, all, any}
@@ -21,7 +21,7 @@ use Rattle.rules.specs.Entry.{Entry, split, sameEntry}
 use Rattle.rules.specs.Table.{at, occupied, entries, locked}
 use Rattle.rules.specs.Lay.{holds, insert}
 use Rattle.rules.specs.Build.{puts}
-use Rattle.rules.specs.Answer.{says, refuses, Leaves, leaves}
+use Rattle.rules.specs.Answer.{Answer, says, refuses, Leaves, leaves}
 use Rattle.rules.specs.Record.{busy, atRest, fitsBusy, fits}
 use Rattle.rules.specs.Give.{given, noTask, taskAt, goodTask, giveTo, storedAt, give}
 use Rattle.rules.specs.Step as rules-step
@@ -712,3 +712,137 @@ module _ {m r : ℕ} {start : List ℕ} {w : World} (f : Fair m r start w) (i : 
           meaning = meaning-after;
           none-full = none-full-after;
         }
+
+-- ---- a step, walked or refused
+abbrev lent : World → Lent
+lent w = record { table = w .table; tasks = w .tasks }
+
+-- what a step answers: by the task number, by a task at rest, or a busy task's walk
+data StepCase {m r : ℕ} {start : List ℕ} {w : World} (f : Fair m r start w) (i : ℕ) : Type 0 where
+  no-task : length (w .tasks) ≤ i → step m r (w .table) (w .tasks) i ≡ leaves (refuses 3) (lent w) → StepCase f i
+  resting :
+      i < length (w .tasks) →
+      atRest (taskAt (w .tasks) i) ≡ true → step m r (w .table) (w .tasks) i ≡ leaves (refuses 5) (lent w) → StepCase f i
+  walked :
+      (lt : i < length (w .tasks)) →
+      1 ≤ taskAt (w .tasks) i .phase →
+      taskAt (w .tasks) i .phase ≤ 12 →
+      (k : Walked (shapeOf m r) (wordsOf (w .table)) (w .tasks) (f .laid) (f .shown) i) →
+      step m r (w .table) (w .tasks) i
+      ≡ leaves (says 0) (record { table = bytesOf (k .words); tasks = set (w .tasks) i (k .next) }) →
+      StepCase f i
+
+-- a phase that is neither 0 nor 13, and at most 13, is a busy one
+between : (t : Task) → t .phase ≤ 13 → atRest t ≡ false → (1 ≤ t .phase) × (t .phase ≤ 12)
+unfolding atRest
+between t le h = go (eqb (t .phase) 0) (eqb (t .phase) 13) refl refl h
+  where
+    go : (a b : Bool) → eqb (t .phase) 0 ≡ a → eqb (t .phase) 13 ≡ b → (a || b) ≡ false → (1 ≤ t .phase) × (t .phase ≤ 12)
+    go true b x y k = absurd (true≢false k)
+    go false true x y k = absurd (true≢false k)
+    go false false x y k =
+        let n = eqb-false (t .phase) 0 x in
+        let o = eqb-false (t .phase) 13 y in
+        (omega (arith, n), omega (arith, o, le))
+
+rest-refused :
+    {m r : ℕ} {start : List ℕ} {w : World} (f : Fair m r start w) (i : ℕ) →
+    i < length (w .tasks) →
+    atRest (taskAt (w .tasks) i) ≡ true → stepOf (shapeOf m r) (wordsOf (w .table)) (taskAt (w .tasks) i) ≡ refused 5
+unfolding stepOf
+rest-refused {m} {r} {start} {w} f i lt rest =
+    rw (stage-fits {ws = wordsOf (w .table)} {shown = f .shown} (f .inv .plain .size) (taskAt (w .tasks) i) (f .inv .stage i lt), rest)
+
+step-case : {m r : ℕ} {start : List ℕ} {w : World} (f : Fair m r start w) (i : ℕ) → StepCase f i
+unfolding step goodTask
+step-case {m} {r} {start} {w} f i = go (ltb i (length (w .tasks))) refl
+  where
+    sixteen : leb (length (w .tasks)) 16 ≡ true
+    sixteen = le-leb (length (w .tasks)) 16 (f .few)
+
+    passed :
+        ltb i (length (w .tasks)) ≡ true →
+        step m r (w .table) (w .tasks) i
+        ≡ lentAfter (w .table) (w .tasks) i (stepOf (shapeOf m r) (wordsOf (w .table)) (taskAt (w .tasks) i))
+    passed e = rw (f .good, sixteen, e)
+
+    low : remainders (shapeOf m r) ≤ 4096
+    low = remainders-high (shapeOf m r) (good-table (shapeOf m r) (length (w .table)) (f .good) .0)
+
+    here : ltb i (length (w .tasks)) ≡ true → (b : Bool) → atRest (taskAt (w .tasks) i) ≡ b → StepCase f i
+    here e true rest =
+        let lt = ltb-true i (length (w .tasks)) e in
+        resting lt rest (passed e ∙ ap (lentAfter (w .table) (w .tasks) i) (rest-refused f i lt rest))
+    here e false rest =
+        let lt = ltb-true i (length (w .tasks)) e in
+        let (first, last) = between (taskAt (w .tasks) i) (stage-last (taskAt (w .tasks) i) (f .inv .stage i lt)) rest in
+        let k = walk low (f .inv) i lt first last in
+        walked lt first last k (passed e ∙ ap (lentAfter (w .table) (w .tasks) i) (k .step))
+
+    go : (b : Bool) → ltb i (length (w .tasks)) ≡ b → StepCase f i
+    go false e = no-task (ltb-false i (length (w .tasks)) e) (rw (f .good, sixteen, e))
+    go true e = here e (atRest (taskAt (w .tasks) i)) refl
+
+pub fair-step : {m r : ℕ} {start : List ℕ} {w : World} (i : ℕ) → Fair m r start w → Fair m r start (act m r w (steps i))
+unfolding act
+fair-step {m} {r} {start} {w} i f = go (step-case f i)
+  where
+    by-answer :
+        {x : Leaves Lent} →
+        step m r (w .table) (w .tasks) i ≡ x → Fair m r start (afterStep w i x) → Fair m r start (act m r w (steps i))
+    by-answer e g = subst (λ (x : Leaves Lent). Fair m r start (afterStep w i x)) (sym e) g
+
+    go : StepCase f i → Fair m r start (act m r w (steps i))
+    go (no-task le e) = by-answer {x = leaves (refuses 3) (lent w)} e f
+    go (resting lt rest e) = by-answer {x = leaves (refuses 5) (lent w)} e f
+    go (walked lt first last k e) =
+        by-answer
+        {x = leaves (says 0) (record { table = bytesOf (k .words); tasks = set (w .tasks) i (k .next) })}
+        e
+        (subst
+        (λ (t : Task).
+        Fair
+        m
+        r
+        start
+        (record {
+          table = bytesOf (k .words);
+          tasks = set (w .tasks) i (k .next);
+          given = w .given;
+          said = heard t (w .said);
+        }))
+        (sym (task-same (w .tasks) i (k .next) lt))
+        (fair-stepped f i lt first last k))
+
+-- ---- any number of actions
+pub fair-act : {m r : ℕ} {start : List ℕ} {w : World} (a : Action) → Fair m r start w → Fair m r start (act m r w a)
+fair-act (gives i key) f = fair-give i key f
+fair-act (steps i) f = fair-step i f
+
+pub fair-course : {m r : ℕ} {start : List ℕ} {w : World} (more : List Action) → Fair m r start w → Fair m r start (course m r w more)
+unfolding course
+fair-course [] f = f
+fair-course (a ∷ more) f = fair-course more (fair-act a f)
+
+-- ---- what a step may answer on the way
+pub data StepAnswer (ts : List Task) (i : ℕ) : Answer → Type 0 where
+  accepted : StepAnswer ts i (says 0)
+  not-a-task : length ts ≤ i → StepAnswer ts i (refuses 3)
+  at-leisure : i < length ts → atRest (taskAt ts i) ≡ true → StepAnswer ts i (refuses 5)
+
+abbrev pub answer-of : {A : Type 0} → Leaves A → Answer
+answer-of (leaves a x) = a
+
+pub step-answers :
+    {m r : ℕ} {start : List ℕ} {w : World} (i : ℕ) →
+    Fair m r start w → StepAnswer (w .tasks) i (answer-of (step m r (w .table) (w .tasks) i))
+step-answers {m} {r} {start} {w} i f = go (step-case f i)
+  where
+    by : {x : Leaves Lent} → step m r (w .table) (w .tasks) i ≡ x → StepAnswer (w .tasks) i (answer-of x) → StepAnswer (w .tasks) i (answer-of (step m r (w .table) (w .tasks) i))
+    by e s = subst (λ (x : Leaves Lent). StepAnswer (w .tasks) i (answer-of x)) (sym e) s
+
+    go : StepCase f i → StepAnswer (w .tasks) i (answer-of (step m r (w .table) (w .tasks) i))
+    go (no-task le e) = by {x = leaves (refuses 3) (lent w)} e (not-a-task le)
+    go (resting lt rest e) = by {x = leaves (refuses 5) (lent w)} e (at-leisure lt rest)
+    go (walked lt first last k e) =
+        by {x = leaves (says 0) (record { table = bytesOf (k .words); tasks = set (w .tasks) i (k .next) })} e accepted
