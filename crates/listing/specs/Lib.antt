@@ -1,0 +1,2 @@
+-- The laws that the call list rests on.
+pub mod Sound

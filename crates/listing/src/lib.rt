@@ -1,0 +1,2 @@
+// The call list (01, Answers and their numbers).
+pub mod sound;
