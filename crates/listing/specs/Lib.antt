@@ -1,2 +1,3 @@
 -- The laws that the call list rests on.
 pub mod Sound
+pub mod Queue
