@@ -1,2 +1,3 @@
-// The call list (01, Answers and their numbers).
-pub mod sound;
+// The call list (01, Answers and their numbers). Its work is linear in the table.
+mod keys;
+mod sound;
