@@ -23,11 +23,11 @@ use Rattle.listing.specs.Queue.{dealOccupied, queue-taken, queue-free}
 -- ---- how many are left
 module _ (bs : List ℕ) (i r : ℕ) where
   pub counted :
-      i < r → 2 * r ≤ length bs →
-      count isOccupied (slice i r (wordsOf bs))
-      ≡ bitOf (at (wordsOf bs) i .occupied) + count isOccupied (slice (i + 1) r (wordsOf bs))
+      (w : ℕ) (b : Bool) →
+      i < r → 2 * r ≤ length bs → wordOf w ≡ at (wordsOf bs) i → b ≡ wordOf w .occupied →
+      count isOccupied (slice i r (wordsOf bs)) ≡ bitOf b + count isOccupied (slice (i + 1) r (wordsOf bs))
   unfolding count
-  counted lt within = rw (run-step bs i r lt within)
+  counted w b lt within word test = rw (run-step bs i r lt within, test, word)
 
   pub counted-end : r ≤ i → count isOccupied (slice i r (wordsOf bs)) ≡ 0
   unfolding count

@@ -56,98 +56,102 @@ pub record Writing (sh : Shape) (bs : List ℕ) (r : ℕ) (slots₀ : List ℕ) 
   pub written : slots ≡ take k (list sh (wordsOf bs)) ++ drop k slots₀
   pub left : dealOccupied (homesFrom (wordsOf bs) r v) (slice i r (wordsOf bs)) ≡ drop k (entries (wordsOf bs))
 
-module _ (sh : Shape) (bs : List ℕ) (r : ℕ) (slots₀ : List ℕ)
-    (range : InRange sh)
-    (size : length bs ≡ 2 * places sh)
+-- what the writing starts from: a sound table with its n keys, and room for them
+pub record Listable (sh : Shape) (bs : List ℕ) (n : ℕ) (slots : List ℕ) : Type 0 where
+  pub range : InRange sh
+  pub size : length bs ≡ 2 * places sh
+  pub snd : sound sh (wordsOf bs) ≡ true
+  pub keys : n ≡ length (list sh (wordsOf bs))
+  pub room : n ≤ length slots
+
+module _ {sh : Shape} {bs : List ℕ} {n : ℕ} {slots₀ : List ℕ} (r : ℕ)
+    (given : Listable sh bs n slots₀)
     (end : r ≡ places sh)
-    (snd : sound sh (wordsOf bs) ≡ true)
-    (room : length (list sh (wordsOf bs)) ≤ length slots₀)
   where
+    low : remainders sh ≤ 4096
+    low = remainders-high sh (given .range)
+
+    sized : length (wordsOf bs) ≡ places sh
+    sized = words-length bs (places sh) (given .size)
+
     whole : Table (remainders sh) (wordsOf bs) (entries (wordsOf bs))
-    whole =
-        sound-is-table sh (wordsOf bs) (remainders-high sh range) (words-length bs (places sh) size) snd
+    whole = sound-is-table sh (wordsOf bs) low sized (given .snd)
 
     inside : All (InShape sh) (entries (wordsOf bs))
-    inside =
-        asc-in-shape sh (remainders-high sh range)
-        (table-inside sh (remainders-high sh range) (words-length bs (places sh) size) whole)
+    inside = asc-in-shape sh low (table-inside sh low sized whole)
 
     pub write-begins : Writing sh bs r slots₀ 0 0 0 slots₀
     write-begins =
-        let all-words : take r (wordsOf bs) ≡ wordsOf bs =
-        take-all r (wordsOf bs) (omega (arith, words-length bs (places sh) size)) in
+        let all-words : take r (wordsOf bs) ≡ wordsOf bs = take-all r (wordsOf bs) (omega (arith, sized)) in
         record {
           reached = omega arith;
           size = refl;
           written = refl;
-          left = rw all-words (table-queue sh (remainders-high sh range) whole);
+          left = rw all-words (table-queue sh low whole);
         }
 
     pub write-ends :
-        (v i k : ℕ) (slots : List ℕ) →
-        Writing sh bs r slots₀ v i k slots →
-        length (list sh (wordsOf bs)) ≤ k → slots ≡ atFront (list sh (wordsOf bs)) slots₀
+        {v i k : ℕ} {slots : List ℕ} →
+        Writing sh bs r slots₀ v i k slots → n ≤ k → slots ≡ atFront (list sh (wordsOf bs)) slots₀
     unfolding atFront
-    write-ends v i k slots s done =
+    write-ends {k = k} s done =
         let all-keys : k ≡ length (list sh (wordsOf bs)) = omega (arith, s .reached) in
         s .written
         ∙ rw (all-keys, take-length (list sh (wordsOf bs)))
 
-    module _ (v i k : ℕ) (slots : List ℕ) (s : Writing sh bs r slots₀ v i k slots)
-        (more : k < length (list sh (wordsOf bs)))
-      where
-        -- the entry that is next, and those after it
-        abbrev e : Entry
-        e = getD (entries (wordsOf bs)) k no-entry
+    module _ {v i k : ℕ} {slots : List ℕ} (s : Writing sh bs r slots₀ v i k slots) (more : k < n) where
+      -- the entry that is next, and those after it
+      abbrev e : Entry
+      e = getD (entries (wordsOf bs)) k no-entry
 
-        abbrev es : List Entry
-        es = drop (suc k) (entries (wordsOf bs))
+      abbrev es : List Entry
+      es = drop (suc k) (entries (wordsOf bs))
 
-        among : k < length (entries (wordsOf bs))
-        unfolding list
-        among = omega (arith, length-map (entries (wordsOf bs)) (join sh))
+      among : k < length (entries (wordsOf bs))
+      unfolding list
+      among = omega (arith, length-map (entries (wordsOf bs)) (join sh))
 
-        left : dealOccupied (homesFrom (wordsOf bs) r v) (slice i r (wordsOf bs)) ≡ e ∷ es
-        left = s .left ∙ drop-cons (entries (wordsOf bs)) k no-entry among
+      left : dealOccupied (homesFrom (wordsOf bs) r v) (slice i r (wordsOf bs)) ≡ e ∷ es
+      left = s .left ∙ drop-cons (entries (wordsOf bs)) k no-entry among
 
-        shaped : InShape sh e
-        shaped = all-getD k no-entry inside among
+      shaped : InShape sh e
+      shaped = all-getD k no-entry inside among
 
-        pub place-inside : (q : ℕ) → q ≡ occupiedFrom (wordsOf bs) r i → 2 * q + 1 < length bs
-        place-inside q found =
-            omega (arith, word-inside bs r v i e es (omega arith) left (shaped .home-low) q found)
+      pub place-inside : (q : ℕ) → q ≡ occupiedFrom (wordsOf bs) r i → 2 * q + 1 < length bs
+      place-inside q found =
+          omega (arith, word-inside bs r v i e es (omega arith) left (shaped .home-low) q found)
 
-        module _ (q w h y : ℕ)
-            (found : q ≡ occupiedFrom (wordsOf bs) r i)
-            (word : wordOf w ≡ at (wordsOf bs) q)
-            (home : h ≡ firstOf r (homesFrom (wordsOf bs) r v))
-            (remainder : y ≡ wordOf w .remainder)
-          where
-            pub entry-shaped : InShape sh (record { home = h; remainder = y })
-            entry-shaped =
-                rw (next-entry bs r v i e es (omega arith) left (shaped .home-low) q w h y found word home remainder) shaped
+      module _ (q w h y : ℕ)
+          (found : q ≡ occupiedFrom (wordsOf bs) r i)
+          (word : wordOf w ≡ at (wordsOf bs) q)
+          (home : h ≡ firstOf r (homesFrom (wordsOf bs) r v))
+          (remainder : y ≡ wordOf w .remainder)
+        where
+          pub entry-shaped : InShape sh (record { home = h; remainder = y })
+          entry-shaped =
+              rw (next-entry bs r v i e es (omega arith) left (shaped .home-low) q w h y found word home remainder) shaped
 
-            pub write-on :
-                (key x : ℕ) →
-                key ≡ join sh (record { home = h; remainder = y }) →
-                x ≡ h + bitOf (wordOf w .change) → Writing sh bs r slots₀ x (q + 1) (k + 1) (set slots k key)
-            unfolding list
-            write-on key x joined after =
-                record {
-                  reached = omega arith;
-                  size = length-set slots k key ∙ s .size;
-                  written =
-                      ap₂ (λ (t : List ℕ) (n : ℕ). set t k n) (s .written) key-is
-                      ∙ front-step (list sh (wordsOf bs)) slots₀ k (join sh no-entry) more (omega arith);
-                  left =
-                      next-left bs r v i e es (omega arith) left (shaped .home-low) q w h y found word home remainder x after
-                      ∙ ap (λ (n : ℕ). drop n (entries (wordsOf bs))) (sym (add-one k));
-                }
-              where
-                key-is : key ≡ getD (list sh (wordsOf bs)) k (join sh no-entry)
-                key-is =
-                    joined
-                    ∙ ap
-                    (join sh)
-                    (next-entry bs r v i e es (omega arith) left (shaped .home-low) q w h y found word home remainder)
-                    ∙ sym (List·getD-map (join sh) (entries (wordsOf bs)) k no-entry)
+          pub write-on :
+              (key x : ℕ) →
+              key ≡ join sh (record { home = h; remainder = y }) →
+              x ≡ h + bitOf (wordOf w .change) → Writing sh bs r slots₀ x (q + 1) (k + 1) (set slots k key)
+          unfolding list
+          write-on key x joined after =
+              record {
+                reached = omega arith;
+                size = length-set slots k key ∙ s .size;
+                written =
+                    ap₂ (λ (t : List ℕ) (n : ℕ). set t k n) (s .written) key-is
+                    ∙ front-step (list sh (wordsOf bs)) slots₀ k (join sh no-entry) (omega arith) (omega arith);
+                left =
+                    next-left bs r v i e es (omega arith) left (shaped .home-low) q w h y found word home remainder x after
+                    ∙ ap (λ (n : ℕ). drop n (entries (wordsOf bs))) (sym (add-one k));
+              }
+            where
+              key-is : key ≡ getD (list sh (wordsOf bs)) k (join sh no-entry)
+              key-is =
+                  joined
+                  ∙ ap
+                  (join sh)
+                  (next-entry bs r v i e es (omega arith) left (shaped .home-low) q w h y found word home remainder)
+                  ∙ sym (List·getD-map (join sh) (entries (wordsOf bs)) k no-entry)

@@ -10,19 +10,17 @@ use words::word::change;
 use words::word::occupied;
 use words::word::remainder;
 ghost use mathlib.Core.Path.{_≡_};
-ghost use mathlib.Core.Bool.{true};
 ghost use Prim.Native.Nat.{_+_, _*_, _≤_, _<_};
 ghost use lib.ListN.{length};
 ghost use lib.Seq.{slice};
 ghost use Rattle.rules.specs.Lists.{bitOf, count};
 ghost use Rattle.rules.specs.Word.{wordOf};
 ghost use Rattle.rules.specs.Bytes.{wordsOf};
-ghost use Rattle.rules.specs.Shape.{places};
-ghost use Rattle.rules.specs.Table.{list, sound};
+ghost use Rattle.rules.specs.Table.{list};
 ghost use Rattle.rules.specs.Listing.{atFront};
-ghost use Rattle.words.specs.Range.{InRange};
 ghost use Rattle.theory.specs.Dealt.{isOccupied};
 ghost use Rattle.listing.specs.Scan.{occupiedFrom};
+ghost use Rattle.listing.specs.Write.{Listable};
 
 // The occupied ones among the first places, up to r and without it.
 pub fn count_occupied(table: &[u8], r: Place) -> u32
@@ -68,11 +66,7 @@ fn home_after(h: Place, w: u16) -> Place
 
 // The n keys of the table, to the front of the slots.
 pub fn write_keys(sh: Shape, table: &[u8], n: usize, slots: &mut [u32])
-    requires { ⌜ InRange sh ⌝
-        ∗ ⌜ length (now table) ≡ 2 * places sh ⌝
-        ∗ ⌜ sound sh (wordsOf (now table)) ≡ true ⌝
-        ∗ ⌜ n ≡ length (list sh (wordsOf (now table))) ⌝
-        ∗ ⌜ n ≤ length (now slots) ⌝ }
+    requires { ⌜ Listable sh (now table) n (now slots) ⌝ }
     ensures { λ _. ⌜ now (slots .exit) ≡ atFront (list sh (wordsOf (now (table .entry)))) (now (slots .entry)) ⌝ }
 {
     let end = Place(homes(sh) + 2);
