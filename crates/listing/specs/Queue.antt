@@ -1,5 +1,5 @@
 -- The entries of a table by one queue of all its homes: `dealOccupied`. `table-queue` says that they are the table's
--- entries, since at every gap of a sound table as many groups have ended as homes have passed; `queue-length` counts them.
+-- entries, since at every gap of a sound table as many groups have ended as homes have passed; `keys-counted` says how many.
 -- Assumes nothing.
 use Prim.Native.Nat.{ℕ, suc, _+_, _*_, _≤_}
 use mathlib.Core.Path.{_≡_, refl, sym, ap, ap₂, _∙_}
@@ -7,21 +7,23 @@ use mathlib.Core.Bool.{Bool, true, false, not, cond, _&&_}
 use mathlib.Core.List.{List, [], _∷_, _++_}
 use native.Mathlib.Omega.{arith}
 use native.Mathlib.Nat.{add-zero}
-use lib.ListN.{length}
+use lib.ListN.{length, length-map}
 use lib.Dec.{eqb}
 use borrow.Author.Tests.{eqb-true}
 use Rattle.rules.specs.declared.Shape.{Shape}
 use Rattle.rules.specs.Lists.{bitOf, count, all}
 use Rattle.rules.specs.Word.{Word, isVoid}
-use Rattle.rules.specs.Entry.{Entry}
-use Rattle.rules.specs.Shape.{remainders}
+use Rattle.rules.specs.Entry.{Entry, join}
+use Rattle.rules.specs.Shape.{remainders, places}
 use Rattle.rules.specs.Table.{endsInChange, rising, soundRun, virginPlaces, front, due, deal}
+use Rattle.rules.specs.Table.{entries, list, sound}
 use Rattle.theory.specs.Run.{Run}
 use Rattle.theory.specs.Dealt.{isChange, isVirgin, isOccupied, isLow, and-left, and-right, entry-path}
 use Rattle.theory.specs.Dealt.{Dealt, dealt-none, dealt-ends, dealt-goes, dealt, dealt-deal}
 use Rattle.theory.specs.RunLaws.{virgin-count, run-is-sound, run-occupied, run-entries}
 use Rattle.theory.specs.Places.{void-free}
 use Rattle.theory.specs.Pairs.{void-unlock}
+use Rattle.theory.specs.SoundTable.{sound-is-table}
 use Rattle.theory.specs.Seen.{Right, right-end, right-more, Table, table}
 
 -- homes dealt to the groups of all the occupied words
@@ -33,7 +35,7 @@ dealOccupied hs (w ∷ ws) =
     (dealOccupied hs ws)
 
 -- one entry for each occupied word
-pub queue-length : (hs : List ℕ) (ws : List Word) → length (dealOccupied hs ws) ≡ count isOccupied ws
+queue-length : (hs : List ℕ) (ws : List Word) → length (dealOccupied hs ws) ≡ count isOccupied ws
 unfolding dealOccupied count
 queue-length hs [] = refl
 queue-length hs (w ∷ ws) = go (w .occupied) (queue-length hs ws) (queue-length (due (w .change) hs) ws)
@@ -154,3 +156,14 @@ table-queue sh s (table {g = g} {v = v} void right) =
     ap (λ (hs : List ℕ). dealOccupied hs (g ∷ v)) (void-home 0 g v void)
     ∙ queue-free (virginPlaces 1 v) g v (void-free g void)
     ∙ right-queue sh s right
+
+-- so a sound table has as many keys as occupied words
+pub keys-counted :
+    (sh : Shape) (ws : List Word) →
+    remainders sh ≤ 4096 →
+    length ws ≡ places sh → sound sh ws ≡ true → count isOccupied ws ≡ length (list sh ws)
+unfolding list
+keys-counted sh ws s size snd =
+    sym (queue-length (virginPlaces 0 ws) ws)
+    ∙ ap length (table-queue sh s (sound-is-table sh ws s size snd))
+    ∙ sym (length-map (entries ws) (join sh))

@@ -9,16 +9,21 @@ use native.Mathlib.Numerals.{add-one}
 use native.Mathlib.Nat.{add-zero}
 use native.Mathlib.Omega.{arith}
 use lib.ListN.{length}
-use lib.Seq.{slice}
+use lib.Seq.{slice, take-all}
 use Rattle.rules.specs.Lists.{bitOf, count}
 use Rattle.rules.specs.Word.{Word, wordOf}
 use Rattle.rules.specs.Bytes.{wordsOf}
 use Rattle.rules.specs.Entry.{Entry}
 use Rattle.rules.specs.Table.{at, front, due}
+use Rattle.words.specs.Layout.{words-length}
 use Rattle.theory.specs.Dealt.{isOccupied, entry-path}
 use Rattle.cluster.specs.Run.{run-step, run-end}
 use Rattle.cluster.specs.Homes.{homesFrom, firstOf, Due, due-home}
 use Rattle.listing.specs.Queue.{dealOccupied, queue-taken, queue-free}
+
+-- all the words of a table
+pub whole-table : (bs : List ℕ) (r n : ℕ) → length bs ≡ 2 * n → r ≡ n → slice 0 r (wordsOf bs) ≡ wordsOf bs
+whole-table bs r n size end = take-all r (wordsOf bs) (omega (arith, words-length bs n size))
 
 -- ---- how many are left
 module _ (bs : List ℕ) (i r : ℕ) where

@@ -9,7 +9,7 @@ use native.Mathlib.Numerals.{add-one}
 use native.Mathlib.Nat.{le-of-eq}
 use native.Mathlib.Omega.{arith}
 use lib.ListN.{length, getD, set, take, drop, length-map, length-set, List·getD-map}
-use lib.Seq.{slice, take-all, take-length, take-suc, drop-cons, set-at, length-take-le}
+use lib.Seq.{slice, take-length, take-suc, drop-cons, set-at, length-take-le}
 use Rattle.rules.specs.declared.Shape.{Shape}
 use Rattle.rules.specs.Lists.{bitOf}
 use Rattle.rules.specs.Word.{Word, wordOf}
@@ -28,7 +28,7 @@ use Rattle.theory.specs.SoundTable.{sound-is-table}
 use Rattle.theory.specs.Keys.{table-inside, asc-in-shape}
 use Rattle.cluster.specs.Homes.{homesFrom, firstOf}
 use Rattle.listing.specs.Queue.{dealOccupied, table-queue}
-use Rattle.listing.specs.Scan.{occupiedFrom, word-inside, next-entry, next-left}
+use Rattle.listing.specs.Scan.{whole-table, occupiedFrom, word-inside, next-entry, next-left}
 
 -- one of all
 all-getD :
@@ -82,12 +82,11 @@ module _ {sh : Shape} {bs : List ℕ} {n : ℕ} {slots₀ : List ℕ} (r : ℕ)
 
     pub write-begins : Writing sh bs r slots₀ 0 0 0 slots₀
     write-begins =
-        let all-words : take r (wordsOf bs) ≡ wordsOf bs = take-all r (wordsOf bs) (omega (arith, sized)) in
         record {
           reached = omega arith;
           size = refl;
           written = refl;
-          left = rw all-words (table-queue sh low whole);
+          left = rw (whole-table bs r (places sh) (given .size) end) (table-queue sh low whole);
         }
 
     pub write-ends :

@@ -10,20 +10,31 @@ use words::word::change;
 use words::word::occupied;
 use words::word::remainder;
 ghost use mathlib.Core.Path.{_≡_};
+ghost use mathlib.Core.Bool.{true};
 ghost use Prim.Native.Nat.{_+_, _*_, _≤_, _<_};
 ghost use lib.ListN.{length};
 ghost use lib.Seq.{slice};
 ghost use Rattle.rules.specs.Lists.{bitOf, count};
 ghost use Rattle.rules.specs.Word.{wordOf};
 ghost use Rattle.rules.specs.Bytes.{wordsOf};
-ghost use Rattle.rules.specs.Table.{list};
+ghost use Rattle.rules.specs.Shape.{places};
+ghost use Rattle.rules.specs.Table.{list, sound};
 ghost use Rattle.rules.specs.Listing.{atFront};
+ghost use Rattle.words.specs.Range.{InRange};
 ghost use Rattle.theory.specs.Dealt.{isOccupied};
 ghost use Rattle.listing.specs.Scan.{occupiedFrom};
 ghost use Rattle.listing.specs.Write.{Listable};
 
+// The place after the right guard: as many places as there are.
+pub fn end_of(sh: Shape) -> Place
+    requires { ⌜ InRange sh ⌝ }
+    ensures { λ p. ⌜ p .0 ≡ places sh ⌝ }
+{
+    Place(homes(sh) + 2)
+}
+
 // The occupied ones among the first places, up to r and without it.
-pub fn count_occupied(table: &[u8], r: Place) -> u32
+fn count_occupied(table: &[u8], r: Place) -> u32
     requires { ⌜ 2 * r .0 ≤ length (now table) ⌝ }
     ensures { λ n. ⌜ n ≡ count isOccupied (slice 0 (r .0) (wordsOf (now (table .entry)))) ⌝ }
 {
@@ -37,6 +48,13 @@ pub fn count_occupied(table: &[u8], r: Place) -> u32
         i += 1;
     }
     n
+}
+
+pub fn count_keys(sh: Shape, table: &[u8]) -> usize
+    requires { ⌜ InRange sh ⌝ ∗ ⌜ length (now table) ≡ 2 * places sh ⌝ ∗ ⌜ sound sh (wordsOf (now table)) ≡ true ⌝ }
+    ensures { λ n. ⌜ n ≡ length (list sh (wordsOf (now (table .entry)))) ⌝ }
+{
+    count_occupied(table, end_of(sh)) as usize
 }
 
 // The first occupied place from p on, up to r: the end if there is none.
@@ -69,7 +87,7 @@ pub fn write_keys(sh: Shape, table: &[u8], n: usize, slots: &mut [u32])
     requires { ⌜ Listable sh (now table) n (now slots) ⌝ }
     ensures { λ _. ⌜ now (slots .exit) ≡ atFront (list sh (wordsOf (now (table .entry)))) (now (slots .entry)) ⌝ }
 {
-    let end = Place(homes(sh) + 2);
+    let end = end_of(sh);
     let mut v = Place(0);
     let mut i = Place(0);
     let mut k: usize = 0;

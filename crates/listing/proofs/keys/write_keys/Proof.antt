@@ -19,25 +19,15 @@ Inv-loop sh table n slots₀ end v₀ i₀ k₀ slots v i k = Writing sh table (
 abbrev μ-loop : tie.MeasureT-loop
 μ-loop sh table n slots₀ end v₀ i₀ k₀ slots v i k = n - k
 
-homes-requires : tie.Need-homes-requires Inv-loop μ-loop
-homes-requires c κs = c .before .before .pre .range
-
-add-t13 : tie.Need-add-t13 Inv-loop μ-loop
-add-t13 c =
-    let start = c .before .before .before in
-    omega (arith, homes-high (start .args .sh) (start .pre .range))
-
--- the end is the number of places
-end-is : (c : tie.After-homes Inv-loop μ-loop) → c .homes .result + 2 ≡ places (c .before .before .before .args .sh)
-unfolding places
-end-is c = omega arith
+end-of-requires : tie.Need-end-of-requires Inv-loop μ-loop
+end-of-requires c κs = c .before .before .pre .range
 
 loop-holds : tie.Need-loop-holds Inv-loop μ-loop
-loop-holds c = write-begins _ (c .before .before .before .pre) (end-is c)
+loop-holds c = write-begins _ (c .before .before .before .pre) (c .end-of .ensures)
 
 next-occupied-requires : tie.Need-next-occupied-requires Inv-loop μ-loop
 next-occupied-requires c κs =
-    omega (arith, end-is (c .before .before), c .before .before .before .before .before .pre .size)
+    omega (arith, c .before .before .end-of .ensures, c .before .before .before .before .before .pre .size)
 
 -- the place that is found is one of the table
 found-inside :
@@ -47,7 +37,7 @@ found-inside c =
     let head = c .before .before in
     place-inside _
     (head .before .before .before .before .pre)
-    (end-is (head .before))
+    (head .before .end-of .ensures)
     (head .loop .inv)
     (c .before .loop-test .taken)
     (c .next-occupied .result .0)
@@ -58,8 +48,8 @@ word-at-requires c κs = found-inside c
 
 next-virgin-requires : tie.Need-next-virgin-requires Inv-loop μ-loop
 next-virgin-requires c κs =
-    let homed = c .before .before .before .before in
-    omega (arith, end-is homed, homed .before .before .before .pre .size)
+    let begun = c .before .before .before .before in
+    omega (arith, begun .end-of .ensures, begun .before .before .before .pre .size)
 
 remainder-requires : tie.Need-remainder-requires Inv-loop μ-loop
 remainder-requires c κs = search needs
@@ -76,7 +66,7 @@ shaped c =
     let head = turn .before in
     entry-shaped _
     (head .before .before .before .before .pre)
-    (end-is (head .before))
+    (head .before .end-of .ensures)
     (head .loop .inv)
     (turn .loop-test .taken)
     (read .before .next-occupied .result .0)
@@ -107,9 +97,9 @@ home-after-requires c κs =
     let start = c .before .before .before .before .before .before .before .before .before .before in
     omega (arith, shaped (c .before) .home-high, homes-high (start .args .sh) (start .pre .range))
 
-add-t15 : tie.Need-add-t15 Inv-loop μ-loop
+add-t13 : tie.Need-add-t13 Inv-loop μ-loop
 unfolding places
-add-t15 c =
+add-t13 c =
     let found = c .before .before .before .before .before .before in
     let start = found .before .before .before .before .before .before in
     omega (arith, found-inside found, start .pre .size, homes-high (start .args .sh) (start .pre .range))
@@ -132,7 +122,7 @@ loop-again c =
     let head = turn .before in
     write-on _
     (head .before .before .before .before .pre)
-    (end-is (head .before))
+    (head .before .end-of .ensures)
     (head .loop .inv)
     (turn .loop-test .taken)
     (read .before .next-occupied .result .0)
@@ -156,7 +146,7 @@ returns c =
     let head = c .before in
     write-ends _
     (head .before .before .before .before .pre)
-    (end-is (head .before))
+    (head .before .end-of .ensures)
     (head .loop .inv)
     (c .loop-test .left)
 
@@ -166,8 +156,7 @@ write-keys-spec =
     (tie.spec
     Inv-loop
     μ-loop
-    homes-requires
-    add-t13
+    end-of-requires
     loop-holds
     next-occupied-requires
     word-at-requires
@@ -177,7 +166,7 @@ write-keys-spec =
     mul-slots
     slice-write-slots
     home-after-requires
-    add-t15
+    add-t13
     add-k
     loop-less
     loop-again
