@@ -1,9 +1,9 @@
 -- The entries of a table by one queue of all its homes: `dealOccupied`. `table-queue` says that they are the table's
--- entries, since at every gap of a sound table as many groups have ended as homes have passed; `keys-counted` says how many.
+-- entries, since at every gap as many groups have ended as homes have passed; `keys-counted` says how many they are.
 -- Assumes nothing.
-use Prim.Native.Nat.{ℕ, suc, _+_, _*_, _≤_}
+use Prim.Native.Nat.{ℕ, suc, _+_, _≤_}
 use mathlib.Core.Path.{_≡_, refl, sym, ap, ap₂, _∙_}
-use mathlib.Core.Bool.{Bool, true, false, not, cond, _&&_}
+use mathlib.Core.Bool.{Bool, true, false, cond, _&&_}
 use mathlib.Core.List.{List, [], _∷_, _++_}
 use native.Mathlib.Omega.{arith}
 use native.Mathlib.Nat.{add-zero}
@@ -15,11 +15,10 @@ use Rattle.rules.specs.Lists.{bitOf, count, all}
 use Rattle.rules.specs.Word.{Word, isVoid}
 use Rattle.rules.specs.Entry.{Entry, join}
 use Rattle.rules.specs.Shape.{remainders, places}
-use Rattle.rules.specs.Table.{endsInChange, rising, soundRun, virginPlaces, front, due, deal}
+use Rattle.rules.specs.Table.{endsInChange, soundRun, virginPlaces, front, due, deal}
 use Rattle.rules.specs.Table.{entries, list, sound}
-use Rattle.theory.specs.Run.{Run}
 use Rattle.theory.specs.Dealt.{isChange, isVirgin, isOccupied, isLow, and-left, and-right, entry-path}
-use Rattle.theory.specs.Dealt.{Dealt, dealt-none, dealt-ends, dealt-goes, dealt, dealt-deal}
+use Rattle.theory.specs.Dealt.{Dealt, dealt-none, dealt-ends, dealt-goes, dealt}
 use Rattle.theory.specs.RunLaws.{virgin-count, run-is-sound, run-occupied, run-entries}
 use Rattle.theory.specs.Places.{void-free}
 use Rattle.theory.specs.Pairs.{void-unlock}
@@ -110,7 +109,10 @@ virgins-append :
 unfolding virginPlaces
 virgins-append p [] ys = ap (λ (n : ℕ). virginPlaces n ys) (sym (add-zero p))
 virgins-append p (x ∷ xs) ys =
-    go (x .virgin) (virgins-append (suc p) xs ys ∙ ap (λ (n : ℕ). virginPlaces (suc p) xs ++ virginPlaces n ys) (plus p (length xs)))
+    go
+    (x .virgin)
+    (virgins-append (suc p) xs ys
+    ∙ ap (λ (n : ℕ). virginPlaces (suc p) xs ++ virginPlaces n ys) (plus p (length xs)))
   where
     plus : (m n : ℕ) → suc m + n ≡ m + suc n
     plus m n = omega arith
@@ -137,7 +139,8 @@ right-queue sh {p} s (right-more run g v xs ys r void rest e f) =
     ap (λ (ws : List Word). dealOccupied (virginPlaces p ws) ws) e
     ∙ ap
     (λ (hs : List ℕ). dealOccupied hs (run ++ (g ∷ v)))
-    (virgins-append p run (g ∷ v) ∙ ap (λ (hs : List ℕ). virginPlaces p run ++ hs) (void-home (p + length run) g v void))
+    (virgins-append p run (g ∷ v)
+    ∙ ap (λ (hs : List ℕ). virginPlaces p run ++ hs) (void-home (p + length run) g v void))
     ∙ queue-run
     (virginPlaces (suc (p + length run)) v)
     (g ∷ v)

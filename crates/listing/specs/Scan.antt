@@ -1,8 +1,8 @@
--- The occupied words of a table from place to place: counted, and the next one found; a step, the stop and the end of each.
--- `Turn` is what one turn of the listing gives: the next occupied word has the next entry, at the home that is due.
+-- The occupied words of a table from place to place: a step and the end of their count and of the search for the next.
+-- One turn of the listing: the next occupied word has the next entry, `next-entry`, and the others stay, `next-left`.
 -- Assumes nothing.
 use Prim.Native.Nat.{ℕ, zero, suc, _+_, _-_, _*_, _≤_, _<_}
-use mathlib.Core.Path.{_≡_, refl, sym, ap, ap₂, _∙_}
+use mathlib.Core.Path.{_≡_, refl, sym, ap, _∙_}
 use mathlib.Core.Bool.{Bool, true, false, cond}
 use mathlib.Core.List.{List, [], _∷_}
 use native.Mathlib.Numerals.{add-one}

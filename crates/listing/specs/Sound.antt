@@ -1,10 +1,9 @@
 -- A whole table is sound if its guards are void and, from gap to gap, each cluster is sound and the gap after it void:
--- `sound-guards`, and the start, a step and the end of the way from the left guard to the right one. Nothing is known of
--- the words beforehand.
+-- `sound-guards`, and the way from the left guard to the right one. Nothing is known of the words beforehand.
 -- Assumes nothing.
 use Prim.Native.Nat.{ℕ, suc, _+_, _*_, _≤_, _<_}
 use mathlib.Core.Path.{_≡_, refl, sym, ap, _∙_}
-use mathlib.Core.Bool.{Bool, true, false, not, _&&_, true≢false}
+use mathlib.Core.Bool.{Bool, true, false, not, _&&_}
 use mathlib.Core.List.{List, [], _∷_, _++_}
 use native.Mathlib.Numerals.{add-one}
 use native.Mathlib.Omega.{arith}
@@ -22,7 +21,7 @@ use Rattle.theory.specs.Gaps.{Gap, Guarded, rightGap-is, gap-first, gap-above}
 use Rattle.theory.specs.Gaps as gaps
 use Rattle.theory.specs.Places.{void-free, occupied-at}
 use Rattle.theory.specs.Cut.{Cut, cut, between-occupied, void-guarded}
-use Rattle.theory.specs.SoundTable.{Past, sound-past, look, sound-seen, sound-rest, origin-seen}
+use Rattle.theory.specs.SoundTable.{sound-past, look, sound-seen, sound-rest, origin-seen}
 use Rattle.theory.specs.SoundTable.{sound-is-table, table-guards}
 
 -- two tests that pass together have one value

@@ -1,22 +1,21 @@
--- The keys written to the front of the slots, one a turn. `Writing` is the loop's invariant: the first k keys are written,
--- and what is left of the table has the entries of the others. `write-begins`, `write-on`, `write-ends` are its laws.
+-- The keys written to the front of the slots, one a turn. `Writing` is the loop's invariant: the first k keys are
+-- written, and what is left of the table has the others. `write-begins`, `write-on`, `write-ends` are its laws.
 -- Assumes nothing.
 use Prim.Native.Nat.{ℕ, zero, suc, _+_, _*_, _≤_, _<_}
 use mathlib.Core.Path.{_≡_, refl, sym, ap, ap₂, _∙_}
-use mathlib.Core.Bool.{Bool, true}
-use mathlib.Core.List.{List, [], _∷_, _++_, append-assoc, map}
+use mathlib.Core.Bool.{true}
+use mathlib.Core.List.{List, [], _∷_, _++_, append-assoc}
 use native.Mathlib.Numerals.{add-one}
-use native.Mathlib.Nat.{le-of-eq}
 use native.Mathlib.Omega.{arith}
 use lib.ListN.{length, getD, set, take, drop, length-map, length-set, List·getD-map}
 use lib.Seq.{slice, take-length, take-suc, drop-cons, set-at, length-take-le}
 use Rattle.rules.specs.declared.Shape.{Shape}
 use Rattle.rules.specs.Lists.{bitOf}
-use Rattle.rules.specs.Word.{Word, wordOf}
+use Rattle.rules.specs.Word.{wordOf}
 use Rattle.rules.specs.Bytes.{wordsOf}
 use Rattle.rules.specs.Entry.{Entry, join}
 use Rattle.rules.specs.Shape.{remainders, places}
-use Rattle.rules.specs.Table.{at, virginPlaces, entries, list, sound}
+use Rattle.rules.specs.Table.{at, entries, list, sound}
 use Rattle.rules.specs.Listing.{atFront}
 use Rattle.words.specs.Range.{InRange, remainders-high}
 use Rattle.words.specs.Split.{InShape}
@@ -126,9 +125,12 @@ module _ {sh : Shape} {bs : List ℕ} {n : ℕ} {slots₀ : List ℕ} (r : ℕ)
           (home : h ≡ firstOf r (homesFrom (wordsOf bs) r v))
           (remainder : y ≡ wordOf w .remainder)
         where
+          same-entry : record { home = h; remainder = y } ≡ e
+          same-entry =
+              next-entry bs r v i e es (omega arith) left (shaped .home-low) q w h y found word home remainder
+
           pub entry-shaped : InShape sh (record { home = h; remainder = y })
-          entry-shaped =
-              rw (next-entry bs r v i e es (omega arith) left (shaped .home-low) q w h y found word home remainder) shaped
+          entry-shaped = rw same-entry shaped
 
           pub write-on :
               (key x : ℕ) →
@@ -143,14 +145,13 @@ module _ {sh : Shape} {bs : List ℕ} {n : ℕ} {slots₀ : List ℕ} (r : ℕ)
                     ap₂ (λ (t : List ℕ) (n : ℕ). set t k n) (s .written) key-is
                     ∙ front-step (list sh (wordsOf bs)) slots₀ k (join sh no-entry) (omega arith) (omega arith);
                 left =
-                    next-left bs r v i e es (omega arith) left (shaped .home-low) q w h y found word home remainder x after
+                    next-left bs r v i e es (omega arith) left (shaped .home-low)
+                    q w h y found word home remainder x after
                     ∙ ap (λ (n : ℕ). drop n (entries (wordsOf bs))) (sym (add-one k));
               }
             where
               key-is : key ≡ getD (list sh (wordsOf bs)) k (join sh no-entry)
               key-is =
                   joined
-                  ∙ ap
-                  (join sh)
-                  (next-entry bs r v i e es (omega arith) left (shaped .home-low) q w h y found word home remainder)
+                  ∙ ap (join sh) same-entry
                   ∙ sym (List·getD-map (join sh) (entries (wordsOf bs)) k no-entry)

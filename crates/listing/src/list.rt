@@ -29,7 +29,8 @@ fn lock_anywhere(sh: Shape, table: &[u8]) -> bool
 
 fn list_in(sh: Shape, table: &[u8], slots: &mut [u32]) -> ListAnswer
     requires { ⌜ InRange sh ⌝ ∗ ⌜ length (now table) ≡ 2 * places sh ⌝ }
-    ensures { λ x. ⌜ leaves (listSays x) (now (slots .exit)) ≡ listIn sh (wordsOf (now (table .entry))) (now (slots .entry)) ⌝ }
+    ensures { λ x. ⌜ leaves (listSays x) (now (slots .exit))
+        ≡ listIn sh (wordsOf (now (table .entry))) (now (slots .entry)) ⌝ }
 {
     if sound_table(sh, table) {
         if lock_anywhere(sh, table) {
@@ -49,7 +50,8 @@ fn list_in(sh: Shape, table: &[u8], slots: &mut [u32]) -> ListAnswer
 }
 
 pub fn list(m: u32, r: u32, table: &[u8], slots: &mut [u32]) -> ListAnswer
-    ensures { λ x. ⌜ leaves (listSays x) (now (slots .exit)) ≡ listing m r (now (table .entry)) (now (slots .entry)) ⌝ }
+    ensures { λ x. ⌜ leaves (listSays x) (now (slots .exit))
+        ≡ listing m r (now (table .entry)) (now (slots .entry)) ⌝ }
 {
     if good_table(m, r, table.len()) {
         list_in(shape_of(m, r), table, slots)

@@ -44,7 +44,9 @@ fn sound_between(sh: Shape, table: &[u8], l: Place, r: Place) -> bool
 
 // From the left guard to the right one: l is the gap that is reached.
 fn clusters_sound(sh: Shape, table: &[u8]) -> bool
-    requires { ⌜ InRange sh ⌝ ∗ ⌜ length (now table) ≡ 2 * places sh ⌝ ∗ ⌜ guardsVoid sh (wordsOf (now table)) ≡ true ⌝ }
+    requires { ⌜ InRange sh ⌝
+        ∗ ⌜ length (now table) ≡ 2 * places sh ⌝
+        ∗ ⌜ guardsVoid sh (wordsOf (now table)) ≡ true ⌝ }
     ensures { λ t. ⌜ t ≡ soundAfter sh (wordsOf (now (table .entry))) 0 ⌝ }
 {
     let end = right_guard(sh).0;

@@ -1,7 +1,7 @@
 -- `count_occupied` meets its contract. The invariant: those counted and those that are left are as many as all.
 -- Assumes nothing.
 use Prim.Native.Nat.{_+_, _-_, _≤_}
-use mathlib.Core.Path.{_≡_, refl, sym, _∙_, ap}
+use mathlib.Core.Path.{_≡_, ap}
 use mathlib.Core.Logic.{⊎-elim}
 use borrow.Author.Needs.{needs}
 use native.Mathlib.Omega.{arith}
@@ -16,8 +16,8 @@ use Rattle.listing.proofs.keys.count_occupied.Tie as tie
 
 abbrev Inv-loop : tie.InvT-loop
 Inv-loop table end n₀ i₀ n i =
-    (n ≤ i)
-    × (n + count isOccupied (slice i end (wordsOf table)) ≡ count isOccupied (slice i₀ end (wordsOf table)))
+    (n + count isOccupied (slice i end (wordsOf table)) ≡ count isOccupied (slice i₀ end (wordsOf table)))
+    × (n ≤ i)
 
 abbrev μ-loop : tie.MeasureT-loop
 μ-loop table end n₀ i₀ n i = end - i

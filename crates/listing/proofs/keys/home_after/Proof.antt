@@ -1,10 +1,8 @@
 -- `home_after` meets its contract.
 -- Assumes nothing.
 use borrow.Author.Needs.{needs}
-use native.Mathlib.Omega.{arith}
-use mathlib.Core.Path.{sym, _∙_, ap}
+use mathlib.Core.Path.{sym}
 use native.Mathlib.Nat.{add-zero}
-use Rattle.rules.specs.Lists.{bitOf}
 use Rattle.listing.proofs.keys.home_after.Statement.{statement}
 use Rattle.listing.proofs.keys.home_after.Tie as tie
 

@@ -1,12 +1,11 @@
 -- `next_occupied` meets its contract. The invariant: the next occupied place is that of the place given.
 -- Assumes nothing.
 use Prim.Native.Nat.{_-_}
-use mathlib.Core.Path.{_≡_, refl, sym, _∙_, ap}
+use mathlib.Core.Path.{_≡_, refl, sym, _∙_}
 use borrow.Author.Needs.{needs}
 use native.Mathlib.Omega.{arith}
 use denote.Ref.{now}
 use Rattle.rules.specs.Bytes.{wordsOf}
-use Rattle.theory.specs.Dealt.{isOccupied}
 use Rattle.listing.specs.Scan.{occupiedFrom, next-passed, next-met, next-end}
 use Rattle.listing.proofs.keys.next_occupied.Statement.{statement}
 use Rattle.listing.proofs.keys.next_occupied.Tie as tie
@@ -65,7 +64,8 @@ returns-2 : tie.Need-returns-2 Inv-loop μ-loop
 returns-2 c =
     let head = c .before in
     let start = head .before .before in
-    sym (next-end (now (start .args .table)) (head .loop .i) (start .args .r .0) (c .loop-test .left)) ∙ head .loop .inv
+    sym (next-end (now (start .args .table)) (head .loop .i) (start .args .r .0) (c .loop-test .left))
+    ∙ head .loop .inv
 
 pub next-occupied-spec : {M : Type 1} → statement M
 next-occupied-spec =

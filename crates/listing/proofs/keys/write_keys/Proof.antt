@@ -1,7 +1,6 @@
 -- `write_keys` meets its contract. The invariant is `Writing`; the measure, how many keys are left.
 -- Assumes nothing.
 use Prim.Native.Nat.{_+_, _-_, _*_, _<_}
-use mathlib.Core.Path.{_≡_, ap}
 use borrow.Author.Needs.{needs}
 use native.Mathlib.Omega.{arith}
 use denote.Ref.{now}
@@ -9,7 +8,7 @@ use lib.ListN.{length}
 use Rattle.rules.specs.Shape.{places}
 use Rattle.words.specs.Range.{homes-high}
 use Rattle.words.specs.Split.{InShape}
-use Rattle.listing.specs.Write.{Writing, Listable, write-begins, place-inside, entry-shaped, write-on, write-ends}
+use Rattle.listing.specs.Write.{Writing, write-begins, place-inside, entry-shaped, write-on, write-ends}
 use Rattle.listing.proofs.keys.write_keys.Statement.{statement}
 use Rattle.listing.proofs.keys.write_keys.Tie as tie
 

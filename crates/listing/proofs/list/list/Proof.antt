@@ -27,7 +27,8 @@ unfolding listing
 returns c =
     let shaped = c .before .before .before .before in
     let good = shaped .before in
-    rw (← good .before .good-table .ensures, good .if1 .taken, ← shaped .shape-of .ensures) (c .before .before .list-in .ensures)
+    rw (← good .before .good-table .ensures, good .if1 .taken, ← shaped .shape-of .ensures)
+    (c .before .before .list-in .ensures)
 
 returns-2 : tie.Need-returns-2
 unfolding listing

@@ -1,6 +1,6 @@
 -- `list_in` meets its contract: 6, then 7, then 9, and only then the keys.
 -- Assumes nothing.
-use mathlib.Core.Path.{sym, _∙_, ap}
+use mathlib.Core.Path.{sym, _∙_}
 use borrow.Author.Needs.{needs}
 use borrow.Author.Tests.{le-leb, lt-leb}
 use Rattle.rules.specs.Listing.{listIn}

@@ -1,5 +1,5 @@
--- `clusters_sound` meets its contract. The invariant: a gap is reached, and what lies after it is sound if what lies after
--- the left guard is. The measure is the way to the right guard.
+-- `clusters_sound` meets its contract. The invariant: a gap is reached, and what lies after it is sound if what lies
+-- after the left guard is. The measure is the way to the right guard.
 -- Assumes nothing.
 use Prim.Native.Nat.{_-_, _≤_, _<_}
 use borrow.Author.Needs.{needs}
@@ -27,12 +27,15 @@ loop-holds c =
 
 add-t8 : tie.Need-add-t8 Inv-loop μ-loop
 unfolding rightGuard
-add-t8 c = omega (arith, homes-high (c .before .before .before .before .args .sh) (c .before .before .before .before .pre .0))
+add-t8 c =
+    let start = c .before .before .before .before in
+    omega (arith, homes-high (start .args .sh) (start .pre .0))
 
 right-gap-requires : tie.Need-right-gap-requires Inv-loop μ-loop
 unfolding places
 right-gap-requires c κs =
-    omega (arith, homes-high (c .before .before .before .before .args .sh) (c .before .before .before .before .pre .0))
+    let start = c .before .before .before .before in
+    omega (arith, homes-high (start .args .sh) (start .pre .0))
 
 -- the next gap lies after the one that is reached, and no further than the right guard
 ahead :

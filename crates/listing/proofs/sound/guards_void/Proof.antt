@@ -1,13 +1,11 @@
 -- `guards_void` meets its contract.
 -- Assumes nothing.
-use mathlib.Core.Path.{sym, _∙_, ap}
 use borrow.Author.Needs.{needs}
 use native.Mathlib.Omega.{arith}
 use denote.Ref.{now}
-use Rattle.rules.specs.Word.{isVoid}
 use Rattle.rules.specs.Bytes.{wordsOf}
 use Rattle.rules.specs.Shape.{places, rightGuard}
-use Rattle.rules.specs.Table.{at, guardsVoid}
+use Rattle.rules.specs.Table.{guardsVoid}
 use Rattle.listing.proofs.sound.guards_void.Statement.{statement}
 use Rattle.listing.proofs.sound.guards_void.Tie as tie
 
