@@ -73,7 +73,7 @@ passes d v virgins changes [] = v .change && eqb virgins changes
 passes d v virgins changes (w ∷ ws) =
     follows d v w && passes d w (virgins + bitOf (w .virgin)) (changes + bitOf (w .change)) ws
 
--- with the bits before them, the words are counted, end in change, are low and rise as the rule says of a run
+-- one word's tests, put among those of the rest
 swap-tests : (low up even ends all-low rise : Bool) →
     (low && up && ((even && ends) && (all-low && rise))) ≡ ((even && ends) && ((low && all-low) && (up && rise)))
 swap-tests true true even ends all-low rise = refl
@@ -86,6 +86,7 @@ swap-tests false up true false all-low rise = refl
 swap-tests false up false ends all-low rise = refl
 
 module _ (d : ℕ) where
+  -- words pass if, with the bits before them, they are counted, end in change, are low and rise as the rule says
   passes-is : (v : Word) (n m : ℕ) (ws : List Word) →
       passes d v n m ws
       ≡ ((eqb (n + count isVirgin ws) (m + count isChange ws) && endsInChange (v ∷ ws))
@@ -107,11 +108,11 @@ module _ (d : ℕ) where
       (rising (w ∷ ws)))
 
 -- a word that ends a group, before a run, changes nothing
-after-end : (v : Word) (ws : List Word) → v .change ≡ true →
+ends-before : (v : Word) (ws : List Word) → v .change ≡ true →
     (endsInChange (v ∷ ws) ≡ endsInChange ws) × (rising (v ∷ ws) ≡ rising ws)
 unfolding endsInChange rising
-after-end v [] e = (e, refl)
-after-end v (w ∷ ws) e = (refl, rw e)
+ends-before v [] e = (e, refl)
+ends-before v (w ∷ ws) e = (refl, rw e)
 
 pub passes-sound : (sh : Shape) (v : Word) (ws : List Word) → v .change ≡ true →
     passes (remainders sh) v 0 0 ws ≡ soundRun sh ws
@@ -119,7 +120,7 @@ unfolding soundRun
 passes-sound sh v ws e =
     passes-is (remainders sh) v 0 0 ws
     ∙ rw
-    (zero-add (count isVirgin ws), zero-add (count isChange ws), after-end v ws e .0, after-end v ws e .1)
+    (zero-add (count isVirgin ws), zero-add (count isChange ws), ends-before v ws e .0, ends-before v ws e .1)
 
 pub sound-start :
     (sh : Shape) (bs : List ℕ) (l r d v : ℕ) → d ≡ remainders sh → wordOf v .change ≡ true →

@@ -31,25 +31,23 @@ loop-less c = omega arith
 
 loop-again : tie.Need-loop-again Inv-loop μ-loop
 loop-again c =
-    let turn = c .before .before in
-    let head = turn .before in
+    let head = c .before .before .before in
     let os = occupied (wordsOf (now (head .before .before .args .table))) in
     let seen = sym (c .before .taken .ensures) ∙ c .if1 .taken in
-    (omega arith, left-step os (head .loop .i) (turn .loop-test .taken) seen ∙ head .loop .inv .1)
+    (omega arith, left-step os (head .loop .i) (omega arith) seen ∙ head .loop .inv .1)
 
 returns : tie.Need-returns Inv-loop μ-loop
 returns c =
-    let turn = c .before .before in
-    let head = turn .before in
+    let head = c .before .before .before in
     let os = occupied (wordsOf (now (head .before .before .args .table))) in
     let seen = sym (c .before .taken .ensures) ∙ c .if1 .left in
-    sym (left-stop os (head .loop .i) (turn .loop-test .taken) seen) ∙ head .loop .inv .1
+    sym (left-stop os (head .loop .i) (omega arith) seen) ∙ head .loop .inv .1
 
 returns-2 : tie.Need-returns-2 Inv-loop μ-loop
 returns-2 c =
     let head = c .before in
     let os = occupied (wordsOf (now (head .before .before .args .table))) in
-    sym (left-end os (head .loop .i) (c .loop-test .left)) ∙ head .loop .inv .1
+    sym (left-end os (head .loop .i) (omega arith)) ∙ head .loop .inv .1
 
 pub left-gap-spec : {M : Type 1} → statement M
 left-gap-spec =
