@@ -117,6 +117,7 @@ module _ (bs : List ℕ) (r v i : ℕ) (e : Entry) (es : List Entry)
         (home : h ≡ firstOf r hs)
         (remainder : y ≡ wordOf w .remainder)
       where
+        -- the next word's entry is the next one
         cards :
             record { home = front hs; remainder = wordOf w .remainder }
             ∷ dealOccupied (due (wordOf w .change) hs) (slice (q + 1) r (wordsOf bs))

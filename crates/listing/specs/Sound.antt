@@ -97,8 +97,8 @@ module _ (sh : Shape) (ws : List Word) (l r : ℕ)
     abbrev w : List Word
     w = drop (suc r) ws
 
-    step : soundAfter sh ws l ≡ ((soundRun sh run && isVoid h) && soundAfter sh ws r)
-    step = same-truth _ _ to back
+    cluster-step : soundAfter sh ws l ≡ ((soundRun sh run && isVoid h) && soundAfter sh ws r)
+    cluster-step = same-truth _ _ to back
       where
         pieces : Cut ws l r
         pieces = cut ws l r (gap .side) inside
@@ -183,7 +183,7 @@ module _ (sh : Shape) (bs : List ℕ) (size : length bs ≡ 2 * places sh) (void
           ≡ ((soundRun sh (between (wordsOf bs) l r) && isVoid (at (wordsOf bs) r)) && soundAfter sh (wordsOf bs) r)
       unfolding places rightGuard
       here =
-          step sh (wordsOf bs) l r origin-free (at-l .free) gap-next
+          cluster-step sh (wordsOf bs) l r origin-free (at-l .free) gap-next
           (omega (arith, next-inside .1, words-length bs (places sh) size))
 
       pub way-on :

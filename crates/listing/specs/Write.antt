@@ -29,7 +29,7 @@ use Rattle.cluster.specs.Homes.{homesFrom, firstOf}
 use Rattle.listing.specs.Queue.{dealOccupied, table-queue}
 use Rattle.listing.specs.Scan.{whole-table, occupiedFrom, word-inside, next-entry, next-left}
 
--- one of all
+-- what holds of all holds of the k-th
 all-getD :
     {A : Type 0} {P : A → Type 0} {xs : List A} (k : ℕ) (d : A) → All P xs → k < length xs → P (getD xs k d)
 all-getD k d perm.none lt = absurd (omega arith)
@@ -49,6 +49,7 @@ front-step ks ts k z here room =
 abbrev no-entry : Entry
 no-entry = record { home = 0; remainder = 0 }
 
+-- k keys are written; v is where the next home is looked for, i where the next occupied word is
 pub record Writing (sh : Shape) (bs : List ℕ) (r : ℕ) (slots₀ : List ℕ) (v i k : ℕ) (slots : List ℕ) : Type 0 where
   pub reached : k ≤ length (list sh (wordsOf bs))
   pub size : length slots ≡ length slots₀

@@ -50,6 +50,7 @@ fn count_occupied(table: &[u8], r: Place) -> u32
     n
 }
 
+// A sound table has one key for each occupied word.
 pub fn count_keys(sh: Shape, table: &[u8]) -> usize
     requires { ⌜ InRange sh ⌝ ∗ ⌜ length (now table) ≡ 2 * places sh ⌝ ∗ ⌜ sound sh (wordsOf (now table)) ≡ true ⌝ }
     ensures { λ n. ⌜ n ≡ length (list sh (wordsOf (now (table .entry)))) ⌝ }

@@ -49,6 +49,7 @@ fn list_in(sh: Shape, table: &[u8], slots: &mut [u32]) -> ListAnswer
     }
 }
 
+// The answer has the paper's number and count; the slots are left as they were where the call is refused.
 pub fn list(m: u32, r: u32, table: &[u8], slots: &mut [u32]) -> ListAnswer
     ensures { λ x. ⌜ leaves (listSays x) (now (slots .exit))
         ≡ listing m r (now (table .entry)) (now (slots .entry)) ⌝ }
