@@ -48,12 +48,12 @@ module _ (bs : List ℕ) (p r : ℕ) where
   home-end h = rw (run-end bs p r h)
 
 -- the first home stands before r, and the others are the homes after it
-record Due (bs : List ℕ) (r : ℕ) (hs : List ℕ) : Type 0 where
+pub record Due (bs : List ℕ) (r : ℕ) (hs : List ℕ) : Type 0 where
   pub inside : firstOf r hs < r
   pub first : hs ≡ firstOf r hs ∷ homesFrom (wordsOf bs) r (firstOf r hs + 1)
   pub same : homesFrom (wordsOf bs) r (firstOf r hs) ≡ hs
 
-due-home :
+pub due-home :
     (bs : List ℕ) (p r : ℕ) → 2 * r ≤ length bs → 0 < length (homesFrom (wordsOf bs) r p) →
     Due bs r (homesFrom (wordsOf bs) r p)
 due-home bs p r within = go (r - p) p refl

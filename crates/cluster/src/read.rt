@@ -34,7 +34,7 @@ struct Seen {
 }
 
 // The first place with virgin from p on, up to r: r itself if there is none.
-fn next_virgin(table: &[u8], p: Place, r: Place) -> Place
+pub fn next_virgin(table: &[u8], p: Place, r: Place) -> Place
     requires { ⌜ 2 * r .0 ≤ length (now table) ⌝ }
     ensures { λ q. ⌜ q .0 ≡ firstOf (r .0) (homesFrom (wordsOf (now (table .entry))) (r .0) (p .0)) ⌝ }
 {

@@ -40,7 +40,7 @@ pub data Tight (d : ℕ) : List Bool → List Entry → Type 0 where
   tight : {os : List Bool} {es : List Entry} → TightFrom d 1 os es → Tight d (false ∷ os) es
 
 -- ---- words
-void-unlock : (g : Word) → isVoid g ≡ true → unlock g ≡ zeroWord
+pub void-unlock : (g : Word) → isVoid g ≡ true → unlock g ≡ zeroWord
 unfolding isVoid
 void-unlock g void = word-path remainder occ virgin change refl
   where

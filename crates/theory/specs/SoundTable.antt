@@ -243,18 +243,18 @@ module _ (sh : Shape) (ws u : List Word) (g : Word) (run : List Word) (h : Word)
     same : ws ≡ seen
     same = eq ∙ ap (λ (t : List Word). u ++ (g ∷ t)) f
 
-    origin-seen : at seen 0 .occupied ≡ false
+    pub origin-seen : at seen 0 .occupied ≡ false
     origin-seen = sym (ap (λ (t : List Word). at t 0 .occupied) same) ∙ origin
 
-    sound-seen : soundFrom sh ws q v ≡ soundFrom sh seen (suc (length u)) (run ++ (h ∷ w))
+    pub sound-seen : soundFrom sh ws q v ≡ soundFrom sh seen (suc (length u)) (run ++ (h ∷ w))
     sound-seen =
         ap (λ (t : List Word). soundFrom sh t q v) same ∙ ap₂ (soundFrom sh seen) at-q f
 
-    sound-rest : soundFrom sh ws (suc (q + length run)) w ≡ soundFrom sh seen (suc (suc (length u) + length run)) w
+    pub sound-rest : soundFrom sh ws (suc (q + length run)) w ≡ soundFrom sh seen (suc (suc (length u) + length run)) w
     sound-rest =
         ap₂ (λ (t : List Word) (n : ℕ). soundFrom sh t (suc (n + length run)) w) same at-q
 
-    look : soundFrom sh ws q v ≡ true → Past u g run h w free occ empty origin-seen sh
+    pub look : soundFrom sh ws q v ≡ true → Past u g run h w free occ empty origin-seen sh
     look t = past u g run h w free occ empty origin-seen sh (sym sound-seen ∙ t)
 
     shown : List Entry
