@@ -1,0 +1,3 @@
+-- The laws that the code of this crate needs of the rules: one step, the stop and the end of each loop.
+pub mod Scan
+pub mod Run

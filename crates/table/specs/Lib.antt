@@ -1,0 +1,2 @@
+-- Laws that the calls on a table rest on.
+pub mod Count
