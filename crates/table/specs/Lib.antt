@@ -1,2 +1,3 @@
 -- Laws that the calls on a table rest on.
+pub mod Around
 pub mod Count
