@@ -2,3 +2,4 @@
 // nothing, and is one equation with the rules' definition for every input.
 pub mod around;
 pub mod fill;
+pub mod find;
