@@ -1,5 +1,4 @@
 // The fill figure (01, Answers and their numbers).
-use cluster::run::bit;
 use rules::FillAnswer;
 use rules::Refusal;
 use rules::Shape;
@@ -10,15 +9,22 @@ use words::shape::homes;
 use words::shape::shape_of;
 use words::word::occupied;
 ghost use mathlib.Core.Path.{_≡_};
-ghost use Prim.Native.Nat.{_*_, _≤_};
+ghost use Prim.Native.Nat.{_*_, _≤_, _<_};
 ghost use lib.ListN.{length};
-ghost use Rattle.rules.specs.Lists.{count};
+ghost use Rattle.rules.specs.Lists.{bitOf, count};
 ghost use Rattle.rules.specs.Bytes.{wordsOf};
 ghost use Rattle.rules.specs.Shape.{places};
 ghost use Rattle.rules.specs.Fill.{figure as spec-figure, fill as spec-fill};
 ghost use Rattle.rules.specs.Answer.{fillSays};
 ghost use Rattle.words.specs.Range.{InRange};
 ghost use Rattle.theory.specs.Dealt.{isOccupied};
+
+// A bit as a number.
+fn bit_of(b: bool) -> u32
+    ensures { λ n. ⌜ (n ≡ bitOf b) × (n < 2) ⌝ }
+{
+    if b { 1 } else { 0 }
+}
 
 // The occupied ones among the n places of a table.
 fn count_occupied(table: &[u8], n: u32) -> u32
@@ -28,7 +34,7 @@ fn count_occupied(table: &[u8], n: u32) -> u32
     let mut k: u32 = 0;
     let mut i: u32 = 0;
     while i < n {
-        k += bit(occupied(word_at(table, Place(i))));
+        k += bit_of(occupied(word_at(table, Place(i))));
         i += 1;
     }
     k

@@ -28,8 +28,8 @@ word-at-requires c κs = omega arith
 occupied-requires : tie.Need-occupied-requires Inv-loop μ-loop
 occupied-requires c κs = search needs
 
-bit-requires : tie.Need-bit-requires Inv-loop μ-loop
-bit-requires c κs = search needs
+bit-of-requires : tie.Need-bit-of-requires Inv-loop μ-loop
+bit-of-requires c κs = search needs
 
 add-k : tie.Need-add-k Inv-loop μ-loop
 add-k c =
@@ -55,11 +55,11 @@ loop-again c =
     (head .loop .k)
     (head .loop .i)
     (read .word-at .result)
-    (c .bit .result)
+    (c .bit-of .result)
     (read .before .loop-test .taken)
     (start .pre .0)
     (read .word-at .ensures)
-    (c .bit .ensures .0 ∙ ap bitOf (c .before .occupied .ensures))
+    (c .bit-of .ensures .0 ∙ ap bitOf (c .before .occupied .ensures))
     ∙ head .loop .inv
 
 returns : tie.Need-returns Inv-loop μ-loop
@@ -78,7 +78,7 @@ count-occupied-spec =
     loop-holds
     word-at-requires
     occupied-requires
-    bit-requires
+    bit-of-requires
     add-k
     add-i
     loop-less
