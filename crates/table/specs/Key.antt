@@ -1,21 +1,22 @@
--- The place and the remainder that the code has of a key: a home place, and the key's entry.
+-- A key's entry, of the place and the remainder that the code has of it: `key-entry`, `key-shape`, `home-place`.
 -- Assumes nothing.
 use Prim.Native.Nat.{ℕ, _<_}
-use mathlib.Core.Path.{_≡_}
-use native.Mathlib.Omega.{arith}
+use mathlib.Core.Path.{_≡_, sym, subst}
 use Rattle.rules.specs.declared.Shape.{Shape}
 use Rattle.rules.specs.Shape.{keys}
 use Rattle.rules.specs.Entry.{Entry, remainderOf, split}
-use Rattle.words.specs.Split.{split-in-shape}
+use Rattle.words.specs.Split.{InShape, split-in-shape}
 use Rattle.theory.specs.Dealt.{entry-path}
 use Rattle.theory.specs.Gaps.{HomePlace}
+use Rattle.cluster.specs.Read.{entry}
 
-module _ (sh : Shape) (key home : ℕ) (placed : home ≡ split sh key .home) where
-  pub key-place : key < keys sh → HomePlace sh home
-  key-place low =
-      let i = split-in-shape sh key low in
-      record { first = omega (arith, i .home-low); last = omega (arith, i .home-high) }
-
-  pub key-entry : (x : ℕ) → x ≡ remainderOf sh key → record { home = home; remainder = x } ≡ split sh key
+module _ (sh : Shape) (key home x : ℕ) (placed : home ≡ split sh key .home) (rest : x ≡ remainderOf sh key) where
+  pub key-entry : entry home x ≡ split sh key
   unfolding split
-  key-entry x rest = entry-path placed rest
+  key-entry = entry-path placed rest
+
+  pub key-shape : key < keys sh → InShape sh (entry home x)
+  key-shape low = subst (InShape sh) (sym key-entry) (split-in-shape sh key low)
+
+pub home-place : {sh : Shape} {e : Entry} → InShape sh e → HomePlace sh (e .home)
+home-place i = record { first = i .home-low; last = i .home-high }

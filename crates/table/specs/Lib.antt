@@ -3,3 +3,4 @@ pub mod Around
 pub mod Count
 pub mod Finding
 pub mod Key
+pub mod Putting

@@ -23,19 +23,17 @@ ghost use Rattle.rules.specs.Lay.{holds};
 ghost use Rattle.rules.specs.Answer.{says, findSays};
 ghost use Rattle.rules.specs.Find.{findIn, find as spec-find};
 ghost use Rattle.words.specs.Range.{InRange};
-ghost use Rattle.theory.specs.Gaps.{HomePlace};
+ghost use Rattle.words.specs.Split.{InShape};
 ghost use Rattle.cluster.specs.Homes.{Housed};
+ghost use Rattle.cluster.specs.Read.{entry};
 
-fn find_between(table: &[u8], l: Place, r: Place, home: Place, remainder: u16) -> FindAnswer
-    requires { ⌜ l .0 < r .0 ⌝ ∗ ⌜ 2 * r .0 ≤ length (now table) ⌝ ∗ ⌜ Housed (between (wordsOf (now table)) (l .0) (r .0)) ⌝ }
+fn find_between(table: &[u8], l: Place, r: Place, home: Place, x: u16) -> FindAnswer
+    requires { ⌜ l .0 < r .0 ⌝ ∗ ⌜ 2 * r .0 ≤ length (now table) ⌝ }
+    requires { ⌜ Housed (between (wordsOf (now table)) (l .0) (r .0)) ⌝ }
     ensures { λ a. ⌜ findSays a
-        ≡ says
-        (bitOf
-        (holds
-        (record { home = home .0; remainder = remainder })
-        (entriesBetween (wordsOf (now (table .entry))) (l .0) (r .0)))) ⌝ }
+        ≡ says (bitOf (holds (entry (home .0) x) (entriesBetween (wordsOf (now (table .entry))) (l .0) (r .0)))) ⌝ }
 {
-    let read = read_between(table, l, r, home, remainder);
+    let read = read_between(table, l, r, home, x);
     if read.held {
         FindAnswer::Present
     } else {
@@ -43,16 +41,15 @@ fn find_between(table: &[u8], l: Place, r: Place, home: Place, remainder: u16) -
     }
 }
 
-fn find_at(sh: Shape, table: &[u8], home: Place, remainder: u16) -> FindAnswer
-    requires { ⌜ InRange sh ⌝ ∗ ⌜ length (now table) ≡ 2 * places sh ⌝ ∗ ⌜ HomePlace sh (home .0) ⌝ }
-    ensures { λ a. ⌜ findSays a
-        ≡ findIn sh (wordsOf (now (table .entry))) (record { home = home .0; remainder = remainder }) ⌝ }
+fn find_at(sh: Shape, table: &[u8], home: Place, x: u16) -> FindAnswer
+    requires { ⌜ InRange sh ⌝ ∗ ⌜ length (now table) ≡ 2 * places sh ⌝ ∗ ⌜ InShape sh (entry (home .0) x) ⌝ }
+    ensures { λ a. ⌜ findSays a ≡ findIn sh (wordsOf (now (table .entry))) (entry (home .0) x) ⌝ }
 {
     let around = look_around(sh, table, home);
     match around {
         Around::Refused(n) => FindAnswer::Refused(n),
         Around::Empty => FindAnswer::Absent,
-        Around::Cluster(l, r) => find_between(table, l, r, home, remainder),
+        Around::Cluster(l, r) => find_between(table, l, r, home, x),
     }
 }
 

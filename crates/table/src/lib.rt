@@ -3,3 +3,4 @@
 pub mod around;
 pub mod fill;
 pub mod find;
+pub mod put;

@@ -7,12 +7,15 @@ use denote.Ref.{now}
 use Rattle.rules.specs.Shape.{places}
 use Rattle.words.specs.Layout.{words-length}
 use Rattle.table.specs.Around.{looks, cluster-inside}
+use Rattle.table.specs.Key.{home-place}
 use Rattle.table.specs.Finding.{found-by}
 use Rattle.table.proofs.find.find_at.Statement.{statement}
 use Rattle.table.proofs.find.find_at.Tie as tie
 
 look-around-requires : tie.Need-look-around-requires
-look-around-requires c κs = search needs
+look-around-requires c κs =
+    let start = c .before in
+    (start .pre .0, (start .pre .1 .0, home-place (start .pre .1 .1)))
 
 enum-known-around : tie.Need-enum-known-around
 enum-known-around c = search needs
@@ -29,7 +32,7 @@ find-between-requires c κs =
     let look = seen .before .before in
     let start = look .before .before in
     let size = words-length (now (start .args .table)) (places (start .args .sh)) (start .pre .1 .0) in
-    let i = cluster-inside _ _ size (start .pre .1 .1) (looks _ _ _ _ (sym (seen .around2 .given .1) ∙ look .look-around .ensures)) in
+    let i = cluster-inside _ _ size (home-place (start .pre .1 .1)) (looks _ _ _ _ (sym (seen .around2 .given .1) ∙ look .look-around .ensures)) in
     (i .ordered, (omega (arith, i .low), i .housed))
 
 returns : tie.Need-returns
@@ -38,14 +41,14 @@ returns c =
     let look = seen .before .before in
     let start = look .before .before in
     let size = words-length (now (start .args .table)) (places (start .args .sh)) (start .pre .1 .0) in
-    sym (found-by _ size (start .pre .1 .1) (looks _ _ _ _ (sym (seen .around .given .1) ∙ look .look-around .ensures)))
+    sym (found-by _ size (home-place (start .pre .1 .1)) (looks _ _ _ _ (sym (seen .around .given .1) ∙ look .look-around .ensures)))
 
 returns-2 : tie.Need-returns-2
 returns-2 c =
     let look = c .before .before in
     let start = look .before .before in
     let size = words-length (now (start .args .table)) (places (start .args .sh)) (start .pre .1 .0) in
-    sym (found-by _ size (start .pre .1 .1) (looks _ _ _ _ (sym (c .enum-told .given .1) ∙ look .look-around .ensures)))
+    sym (found-by _ size (home-place (start .pre .1 .1)) (looks _ _ _ _ (sym (c .enum-told .given .1) ∙ look .look-around .ensures)))
 
 returns-3 : tie.Need-returns-3
 returns-3 c =
@@ -54,7 +57,7 @@ returns-3 c =
     let start = look .before .before in
     let size = words-length (now (start .args .table)) (places (start .args .sh)) (start .pre .1 .0) in
     c .find-between .ensures
-    ∙ sym (found-by _ size (start .pre .1 .1) (looks _ _ _ _ (sym (seen .around2 .given .1) ∙ look .look-around .ensures)))
+    ∙ sym (found-by _ size (home-place (start .pre .1 .1)) (looks _ _ _ _ (sym (seen .around2 .given .1) ∙ look .look-around .ensures)))
 
 pub find-at-spec : {M : Type 1} → statement M
 find-at-spec =

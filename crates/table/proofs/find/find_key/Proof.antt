@@ -3,7 +3,7 @@
 use mathlib.Core.Path.{_∙_, ap}
 use borrow.Author.Needs.{needs}
 use Rattle.rules.specs.Find.{findIn}
-use Rattle.table.specs.Key.{key-place, key-entry}
+use Rattle.table.specs.Key.{key-entry, key-shape}
 use Rattle.table.proofs.find.find_key.Statement.{statement}
 use Rattle.table.proofs.find.find_key.Tie as tie
 
@@ -16,12 +16,12 @@ remainder-of-requires c κs = search needs
 find-at-requires : tie.Need-find-at-requires
 find-at-requires c κs =
     let start = c .before .before .before in
-    (start .pre .0, (start .pre .1 .0, key-place _ _ _ (c .before .home-place .ensures) (start .pre .1 .1)))
+    (start .pre .0, (start .pre .1 .0, key-shape _ _ _ _ (c .before .home-place .ensures) (c .remainder-of .ensures) (start .pre .1 .1)))
 
 returns : tie.Need-returns
 returns c =
     c .find-at .ensures
-    ∙ ap (findIn _ _) (key-entry _ _ _ (c .before .before .home-place .ensures) _ (c .before .remainder-of .ensures))
+    ∙ ap (findIn _ _) (key-entry _ _ _ _ (c .before .before .home-place .ensures) (c .before .remainder-of .ensures))
 
 pub find-key-spec : {M : Type 1} → statement M
 find-key-spec =
