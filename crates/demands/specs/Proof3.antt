@@ -59,7 +59,7 @@ unfolding locked any
 zeros-unlocked zero = refl
 zeros-unlocked (suc n) = zeros-unlocked n
 
-zeros-state : (sh : Shape) → State sh (zeros sh) []
+pub zeros-state : (sh : Shape) → State sh (zeros sh) []
 unfolding zeros places isVoid
 zeros-state sh =
     record {
@@ -82,7 +82,7 @@ split-within sh key lt =
     let i = split-in-shape sh key lt in
     record { above = omega (arith, i .home-low); low = i .remainder-low; inside = omega (arith, i .home-high) }
 
-all-within : (sh : Shape) (ks : List ℕ) → InKeys sh ks → All (Within (remainders sh) (rightGuard sh) 4096) (entriesOf sh ks)
+pub all-within : (sh : Shape) (ks : List ℕ) → InKeys sh ks → All (Within (remainders sh) (rightGuard sh) 4096) (entriesOf sh ks)
 unfolding all
 all-within sh [] h = perm.none
 all-within sh (k ∷ ks) h =
@@ -150,10 +150,10 @@ keys-roomy : (sh : Shape) (ks : List ℕ) → remainders sh ≤ 4096 → InKeys 
 unfolding distinct
 keys-roomy sh ks s h few = record { low = s; asc = ascend-asc s (all-within sh ks h); few = few }
 
-inside-ascend : (es : List Entry) → Inside es (ascend es)
+pub inside-ascend : (es : List Entry) → Inside es (ascend es)
 inside-ascend es x h = holds-ascend x es ∙ h
 
-nothing-inside : (us : List Entry) → Inside [] us
+pub nothing-inside : (us : List Entry) → Inside [] us
 unfolding holds any
 nothing-inside us x h = absurd (true≢false (sym h))
 
