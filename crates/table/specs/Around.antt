@@ -2,15 +2,14 @@
 -- `around-alone`, `around-cluster`: what is to be looked at where the home is empty, and where it is occupied.
 -- `Looks`: what is then known; `alone-entries` and `cluster-inside`: what follows for the key's cluster.
 -- Assumes nothing.
-use Prim.Native.Nat.{ℕ, suc, _+_, _*_, _≤_, _<_}
+use Prim.Native.Nat.{ℕ, suc, _<_}
 use mathlib.Core.Path.{_≡_, refl, sym, _∙_, subst}
 use mathlib.Core.Bool.{Bool, true, false, cond, _&&_, _||_}
-use mathlib.Core.List.{List, [], _∷_}
+use mathlib.Core.List.{List, []}
 use native.Mathlib.Omega.{arith}
-use lib.ListN.{length, getD, take, drop-of-length-le, length-take}
+use lib.ListN.{length, take, drop-of-length-le, length-take}
 use lib.Seq.{slice, slice-cons, slice-empty}
 use Rattle.rules.specs.declared.Shape.{Shape}
-use Rattle.rules.specs.declared.Refusal.{Refusal}
 use Rattle.rules.specs.declared.Refusal.the-variants.{Unsound, Locked}
 use Rattle.rules.specs.Lists.{count, all, any}
 use Rattle.rules.specs.Word.{Word, zeroWord, isVoid}
@@ -74,7 +73,8 @@ own-gaps sh ws home size h empty =
 
 -- ---- what is to be looked at
 
-pub around-barred : (sh : Shape) (ws : List Word) (home : ℕ) → guardsVoid sh ws ≡ false → aroundOf sh ws home ≡ Refused Unsound
+pub around-barred :
+    (sh : Shape) (ws : List Word) (home : ℕ) → guardsVoid sh ws ≡ false → aroundOf sh ws home ≡ Refused Unsound
 unfolding aroundOf soundAround
 around-barred sh ws home barred = rw barred
 
@@ -86,8 +86,10 @@ module _ (sh : Shape) (ws : List Word) (home : ℕ) (void : guardsVoid sh ws ≡
   around-cluster l r left right full = rw (void, full, ← left, ← right)
 
   pub around-alone :
-      length ws ≡ places sh → HomePlace sh home → at ws home .occupied ≡ false → aroundOf sh ws home ≡ aloneOf (at ws home)
-  unfolding aroundOf soundAround lockedAround around cluster aloneOf soundRun count all rising endsInChange locked any places
+      length ws ≡ places sh → HomePlace sh home → at ws home .occupied ≡ false →
+      aroundOf sh ws home ≡ aloneOf (at ws home)
+  unfolding aroundOf soundAround lockedAround around cluster aloneOf
+      soundRun count all rising endsInChange locked any places
   around-alone size h empty =
       let own = own-gaps sh ws home size h empty in
       rw (

@@ -4,7 +4,7 @@
 use Prim.Native.Nat.{ℕ, zero, suc, _+_, _*_, _≤_, _<_}
 use mathlib.Core.Path.{_≡_, refl, sym, _∙_, ap}
 use mathlib.Core.Bool.{Bool, true, false, cond}
-use mathlib.Core.List.{List, [], _∷_, _++_, map}
+use mathlib.Core.List.{List, [], _∷_, map}
 use native.Mathlib.Numerals.{add-one}
 use native.Mathlib.Omega.{arith}
 use lib.ListN.{length, getD, set, take, drop, replicate, length-set, drop-of-length-le, replicate-append-replicate}
@@ -15,9 +15,9 @@ use Rattle.rules.specs.declared.Shape.{Shape}
 use Rattle.rules.specs.Lists.{all}
 use Rattle.rules.specs.Word.{Word, zeroWord, wordOf}
 use Rattle.rules.specs.Bytes.{wordsOf, bytesOf}
-use Rattle.rules.specs.Shape.{keys, places, remainders}
-use Rattle.rules.specs.Entry.{Entry, split}
-use Rattle.rules.specs.Answer.{says, refuses, Leaves, leaves}
+use Rattle.rules.specs.Shape.{keys, places}
+use Rattle.rules.specs.Entry.{split}
+use Rattle.rules.specs.Answer.{says, refuses, leaves}
 use Rattle.rules.specs.Build.{zeros, puts, tooMany, buildIn}
 use Rattle.words.specs.Range.{InRange, remainders-high}
 use Rattle.words.specs.Layout.{bytes-are}
@@ -97,7 +97,8 @@ module _ (sh : Shape) (ws : List Word) (ks : List ℕ) (i : ℕ) where
     where
       pub fill-passed :
           b ≡ true →
-          fillAll sh (filled vs) (map (split sh) (drop (i + 1) ks)) ≡ fillAll sh (filled ws) (map (split sh) (drop i ks))
+          fillAll sh (filled vs) (map (split sh) (drop (i + 1) ks))
+          ≡ fillAll sh (filled ws) (map (split sh) (drop i ks))
       fill-passed e =
           ap (λ (f : Filled). fillAll sh f (map (split sh) (drop (i + 1) ks))) (rw e at made) ∙ next-fill low
 

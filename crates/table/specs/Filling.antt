@@ -1,7 +1,7 @@
--- Keys put one by one until one finds no room, `fillAll`, as build does it; and `fill-zeros`: from the table that is all
--- zero one finds no room exactly where there are too many distinct keys, and else the puts are those of the rule.
+-- Keys put one by one until one finds no room, as build does it: `fillAll`. From the table that is all zero one finds
+-- no room exactly where there are too many distinct keys, and else the puts are those of the rule: `fill-zeros`.
 -- Assumes nothing.
-use Prim.Native.Nat.{ℕ, _+_, _*_, _≤_, _<_}
+use Prim.Native.Nat.{ℕ, _≤_, _<_}
 use mathlib.Core.Path.{_≡_, refl, sym, _∙_, ap, subst}
 use mathlib.Core.Bool.{Bool, true, false, cond, _||_}
 use mathlib.Core.List.{List, [], _∷_}
@@ -11,7 +11,8 @@ use lib.Dec.{ltb, eqb}
 use borrow.Author.Tests.{ltb-true, ltb-false}
 use Rattle.rules.specs.declared.Shape.{Shape}
 use Rattle.rules.specs.declared.Refusal.{Refusal}
-use Rattle.rules.specs.declared.Refusal.the-variants.{BadShape, BadKey, BadTask, Busy, AtRest, Unsound, Locked, Full, TooFewSlots}
+use Rattle.rules.specs.declared.Refusal.the-variants.{BadShape, BadKey, BadTask, Busy, AtRest}
+use Rattle.rules.specs.declared.Refusal.the-variants.{Unsound, Locked, Full, TooFewSlots}
 use Rattle.rules.specs.declared.PutAnswer.{PutAnswer}
 use Rattle.rules.specs.declared.PutAnswer.the-variants as put-answer
 use Rattle.rules.specs.Lists.{any}
@@ -92,7 +93,7 @@ few-fill :
 unfolding fillAll puts holds any
 few-fill u [] ws shown t old new = refl
 few-fill {sh} {us} u (e ∷ es) ws shown t old new =
-    ap (λ (f : Filled). fillAll sh f es) (go (putIn sh ws e) (put-table sh e (u .low) (t .size) (in-home e u here) (in-low e u here) (t .table) (t .free)))
+    ap (λ (f : Filled). fillAll sh f es) (go (putIn sh ws e) cases)
     ∙ few-fill
     u
     es
@@ -104,6 +105,9 @@ few-fill {sh} {us} u (e ∷ es) ws shown t old new =
   where
     here : holds e us ≡ true
     here = new e (holds-head e es)
+
+    cases : Puts sh ws shown e (putIn sh ws e)
+    cases = put-table sh e (u .low) (t .size) (in-home e u here) (in-low e u here) (t .table) (t .free)
 
     go : (o : Outcome) → Puts sh ws shown e o → filledBy (wordsLeft ws o) ≡ filled (wordsAfter ws o)
     go o (found h) = refl
@@ -117,7 +121,9 @@ record Shown (sh : Shape) (vs : List Word) (old es : List Entry) : Type 0 where
   kept : Inside old shown
   put : Inside es shown
 
-within-home : {sh : Shape} {e : Entry} → remainders sh ≤ 4096 → Within (remainders sh) (rightGuard sh) 4096 e → HomePlace sh (e .home)
+within-home :
+    {sh : Shape} {e : Entry} →
+    remainders sh ≤ 4096 → Within (remainders sh) (rightGuard sh) 4096 e → HomePlace sh (e .home)
 unfolding rightGuard
 within-home s w = record { first = omega (arith, w .above, w .low); last = omega (arith, w .inside) }
 
@@ -151,7 +157,8 @@ fill-shows {sh} s (both {x = e} {xs = es} w rest) ws old t vs made =
 
     go :
         (o : Outcome) → Puts sh ws old e o →
-        ((us : List Word) (now : List Entry) → State sh us now → fillAll sh (filled us) es ≡ filled vs → Shown sh vs now es) →
+        ((us : List Word) (now : List Entry) →
+        State sh us now → fillAll sh (filled us) es ≡ filled vs → Shown sh vs now es) →
         fillAll sh (filledBy (wordsLeft ws o)) es ≡ filled vs → Shown sh vs old (e ∷ es)
     go o (found h) further m =
         let r = further ws old t m in

@@ -1,8 +1,6 @@
 -- Find by what is around the home: `found-by`.
 -- Assumes nothing.
-use Prim.Native.Nat.{ℕ}
-use mathlib.Core.Path.{_≡_, ap}
-use mathlib.Core.Bool.{Bool}
+use mathlib.Core.Path.{_≡_}
 use mathlib.Core.List.{List}
 use lib.ListN.{length}
 use Rattle.rules.specs.declared.Shape.{Shape}

@@ -4,7 +4,7 @@
 -- Assumes nothing.
 use Prim.Native.Nat.{ℕ, suc, _+_, _-_, _*_, _≤_, _<_}
 use mathlib.Core.Path.{_≡_, refl, sym, _∙_, ap}
-use mathlib.Core.Bool.{Bool, true, false, cond}
+use mathlib.Core.Bool.{true, false, cond}
 use mathlib.Core.List.{List, [], _∷_}
 use native.Mathlib.Omega.{arith}
 use lib.ListN.{length, getD, set}
@@ -13,10 +13,11 @@ use borrow.Author.Tests.{eq-eqb, ne-eqb}
 use Rattle.rules.specs.declared.Shape.{Shape}
 use Rattle.rules.specs.Lists.{any}
 use Rattle.rules.specs.Word.{Word}
-use Rattle.rules.specs.Bytes.{wordsOf, bytesOf}
-use Rattle.rules.specs.Shape.{remainders, places, rightGuard}
+use Rattle.rules.specs.Bytes.{wordsOf}
+use Rattle.rules.specs.Shape.{places, rightGuard}
 use Rattle.rules.specs.Entry.{Entry, precedes}
-use Rattle.rules.specs.Table.{at, occupied, leftGap, rightGap, between, cluster, virginPlaces, deal, entriesBetween, clusterEntries}
+use Rattle.rules.specs.Table.{at, occupied, leftGap, rightGap, between}
+use Rattle.rules.specs.Table.{virginPlaces, deal, entriesBetween, clusterEntries}
 use Rattle.rules.specs.Room.{roomBeside, roomFor}
 use Rattle.rules.specs.Lay.{holds}
 use Rattle.rules.specs.Answer.{Answer, says, refuses, numberOfRefusal, Leaves, leaves}
@@ -87,17 +88,19 @@ addable {sh} range i size sound free new =
       new = new;
     }
 
-module _ {sh : Shape} {ws : List Word} (e : Entry) (range : InRange sh) (i : InShape sh e) (size : length ws ≡ places sh) where
-  pub put-by : {a : Around} → Looks sh ws (e .home) a → putIn sh ws e ≡ putBy sh ws e a
-  unfolding putIn roomFor holds any
-  put-by (unsound s) = rw s
-  put-by (barred s l) = rw (s, l)
-  put-by (alone s f o) =
-      let none = alone-entries size (home-place i) (alone s f o) in
-      let a = addable range i size s f (ap (holds e) none) in
-      rw (s, f, none, room-alone a o, add-alone a o)
-  put-by (inside s f o) =
-      rw (s, f, cluster-inside _ _ size (home-place i) (inside s f o) .entries, occupied-at ws (e .home), o)
+module _ {sh : Shape} {ws : List Word} (e : Entry)
+    (range : InRange sh) (i : InShape sh e) (size : length ws ≡ places sh)
+  where
+    pub put-by : {a : Around} → Looks sh ws (e .home) a → putIn sh ws e ≡ putBy sh ws e a
+    unfolding putIn roomFor holds any
+    put-by (unsound s) = rw s
+    put-by (barred s l) = rw (s, l)
+    put-by (alone s f o) =
+        let none = alone-entries size (home-place i) (alone s f o) in
+        let a = addable range i size s f (ap (holds e) none) in
+        rw (s, f, none, room-alone a o, add-alone a o)
+    put-by (inside s f o) =
+        rw (s, f, cluster-inside _ _ size (home-place i) (inside s f o) .entries, occupied-at ws (e .home), o)
 
 -- ---- beside the cluster
 
@@ -147,7 +150,8 @@ module _ {sh : Shape} {ws : List Word} {e : Entry} {l r : Place} {read : Read} (
       (e .home)
   moved side p a here from = rw (← from, here) (add-moves (g .addable) (g .full) side)
 
-  pub added-left : (l .0 ≡ 0 → ⊥) → addBeside sh ws e ≡ writes (says 2) (broughtTo ws e read (l .0) (l .0 + read .smaller))
+  pub added-left :
+      (l .0 ≡ 0 → ⊥) → addBeside sh ws e ≡ writes (says 2) (broughtTo ws e read (l .0) (l .0 + read .smaller))
   unfolding roomBeside enlargedFrom readOf
   added-left far =
       rw (← g .left, ne-eqb (l .0) 0 far, g .read-is)

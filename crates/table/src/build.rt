@@ -18,7 +18,6 @@ ghost use Rattle.rules.specs.Bytes.{wordsOf};
 ghost use Rattle.rules.specs.Shape.{places, keys as keys-of};
 ghost use Rattle.rules.specs.Entry.{split};
 ghost use Rattle.rules.specs.Answer.{leaves, doneSays};
-ghost use Rattle.rules.specs.Put.{putIn};
 ghost use Rattle.rules.specs.Build.{buildIn, build as spec-build};
 ghost use Rattle.words.specs.Range.{InRange};
 ghost use Rattle.table.specs.Filling.{filled, filledIf, fillWith, fillAll};
@@ -102,7 +101,8 @@ fn build_in(sh: Shape, table: &mut [u8], keys: &[u32]) -> Done
 }
 
 pub fn build(m: u32, r: u32, table: &mut [u8], keys: &[u32]) -> Done
-    ensures { λ a. ⌜ leaves (doneSays a) (now (table .exit)) ≡ spec-build m r (now (table .entry)) (now (keys .entry)) ⌝ }
+    ensures { λ a. ⌜ leaves (doneSays a) (now (table .exit))
+        ≡ spec-build m r (now (table .entry)) (now (keys .entry)) ⌝ }
 {
     if good_table(m, r, table.len()) {
         let sh = shape_of(m, r);

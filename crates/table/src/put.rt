@@ -64,8 +64,8 @@ fn bring(table: &mut [u8], hand: Place, goal: Place, mark: u8, home: Place, x: u
     marks::mark(table, mark, goal, home);
 }
 
-// The first empty place to the left is filled; if that is the left guard, the one to the right; if that is a guard too,
-// the table is full.
+// The first empty place to the left is filled; if that is the left guard, the one to the right; if that is a guard
+// too, the table is full.
 fn add_beside(
     sh: Shape,
     table: &mut [u8],

@@ -26,13 +26,21 @@ returns : tie.Need-returns
 unfolding betweenOf
 returns c =
     let sound = c .before .before .before in
-    rw (← add-one, sym (sound .before .sound-between .ensures) ∙ sound .if1 .taken, sym (c .before .any-locked .ensures) ∙ c .if2 .taken)
+    rw (
+      ← add-one,
+      sym (sound .before .sound-between .ensures) ∙ sound .if1 .taken,
+      sym (c .before .any-locked .ensures) ∙ c .if2 .taken,
+    )
 
 returns-2 : tie.Need-returns-2
 unfolding betweenOf
 returns-2 c =
     let sound = c .before .before .before in
-    rw (← add-one, sym (sound .before .sound-between .ensures) ∙ sound .if1 .taken, sym (c .before .any-locked .ensures) ∙ c .if2 .left)
+    rw (
+      ← add-one,
+      sym (sound .before .sound-between .ensures) ∙ sound .if1 .taken,
+      sym (c .before .any-locked .ensures) ∙ c .if2 .left,
+    )
 
 returns-3 : tie.Need-returns-3
 unfolding betweenOf

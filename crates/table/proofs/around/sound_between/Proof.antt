@@ -25,26 +25,29 @@ sound-run-requires c κs = search needs
 returns : tie.Need-returns
 unfolding soundBetween
 returns c =
-    let second = c .before in
-    let first = second .before .before .before in
+    let right = c .before .before in
+    let left = right .before .before .before in
     rw (
-      sym (ap isVoid (first .before .before .word-at .ensures)) ∙ sym (first .before .is-void .ensures) ∙ first .if1 .taken,
-      sym (ap isVoid (second .before .before .word-at2 .ensures)) ∙ sym (second .before .is-void2 .ensures) ∙ second .if2 .taken,
+      sym (left .is-void .ensures ∙ ap isVoid (left .before .word-at .ensures)) ∙ right .before .before .if1 .taken,
+      sym (right .is-void2 .ensures ∙ ap isVoid (right .before .word-at2 .ensures)) ∙ c .before .if2 .taken,
       c .sound-run .ensures,
     )
 
 returns-2 : tie.Need-returns-2
 unfolding soundBetween
 returns-2 c =
-    let first = c .before .before .before in
+    let right = c .before in
+    let left = right .before .before .before in
     rw (
-      sym (ap isVoid (first .before .before .word-at .ensures)) ∙ sym (first .before .is-void .ensures) ∙ first .if1 .taken,
-      sym (ap isVoid (c .before .before .word-at2 .ensures)) ∙ sym (c .before .is-void2 .ensures) ∙ c .if2 .left,
+      sym (left .is-void .ensures ∙ ap isVoid (left .before .word-at .ensures)) ∙ right .before .before .if1 .taken,
+      sym (right .is-void2 .ensures ∙ ap isVoid (right .before .word-at2 .ensures)) ∙ c .if2 .left,
     )
 
 returns-3 : tie.Need-returns-3
 unfolding soundBetween
-returns-3 c = rw (sym (ap isVoid (c .before .before .word-at .ensures)) ∙ sym (c .before .is-void .ensures) ∙ c .if1 .left)
+returns-3 c =
+    let left = c .before in
+    rw (sym (left .is-void .ensures ∙ ap isVoid (left .before .word-at .ensures)) ∙ c .if1 .left)
 
 pub sound-between-spec : {M : Type 1} → statement M
 sound-between-spec =

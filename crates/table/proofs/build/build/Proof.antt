@@ -14,7 +14,9 @@ shape-of-requires : tie.Need-shape-of-requires
 shape-of-requires c κs = search needs
 
 good-keys-requires : tie.Need-good-keys-requires
-good-keys-requires c κs = rw (c .shape-of .ensures) (good-table _ _ (sym (c .before .before .good-table .ensures) ∙ c .before .if1 .taken) .0)
+good-keys-requires c κs =
+    let good = sym (c .before .before .good-table .ensures) ∙ c .before .if1 .taken in
+    rw (c .shape-of .ensures) (good-table _ _ good .0)
 
 build-in-requires : tie.Need-build-in-requires
 build-in-requires c κs =

@@ -1,4 +1,4 @@
--- `build_in` meets its contract: whether all keys found room decides, and the bytes are cleared before and on a refusal.
+-- `build_in` meets its contract: whether all keys found room decides. The bytes are cleared before, and on a refusal.
 -- Assumes nothing.
 use mathlib.Core.Path.{_∙_, ap}
 use borrow.Author.Needs.{needs}

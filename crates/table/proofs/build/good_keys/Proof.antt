@@ -67,7 +67,8 @@ returns-2 : tie.Need-returns-2 Inv-loop μ-loop
 returns-2 c =
     let head = c .before in
     let start = head .before .before in
-    sym (keys-passed (start .args .sh) (now (start .args .keys)) (head .loop .i) (c .loop-test .left)) ∙ head .loop .inv
+    sym (keys-passed (start .args .sh) (now (start .args .keys)) (head .loop .i) (c .loop-test .left))
+    ∙ head .loop .inv
 
 pub good-keys-spec : {M : Type 1} → statement M
 good-keys-spec =

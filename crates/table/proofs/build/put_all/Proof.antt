@@ -1,7 +1,7 @@
 -- `put_all` meets its contract. The invariant: filling on with the keys to come is filling with all from the start.
 -- Assumes nothing.
 use Prim.Native.Nat.{_-_}
-use mathlib.Core.Path.{_≡_, refl, sym, _∙_}
+use mathlib.Core.Path.{_≡_, refl, _∙_}
 use mathlib.Core.List.{map}
 use borrow.Author.Needs.{needs}
 use native.Mathlib.Omega.{arith}
@@ -36,13 +36,10 @@ put-fits-requires : tie.Need-put-fits-requires Inv-loop μ-loop
 put-fits-requires c κs =
     let turn = c .before .before in
     let head = turn .before in
-    let start = head .before .before .before in (
-      start .pre .0,
-      (
-        head .loop .inv .0 ∙ start .pre .1 .0,
-        key-good (start .args .sh) (now (start .args .keys)) (head .loop .i) (turn .loop-test .taken) (start .pre .1 .1),
-      ),
-    )
+    let start = head .before .before .before in
+    let ks = now (start .args .keys) in
+    let low = key-good (start .args .sh) ks (head .loop .i) (turn .loop-test .taken) (start .pre .1 .1) in
+    (start .pre .0, (head .loop .inv .0 ∙ start .pre .1 .0, low))
 
 add-i : tie.Need-add-i Inv-loop μ-loop
 add-i c = omega arith
@@ -100,7 +97,8 @@ returns-2 : tie.Need-returns-2 Inv-loop μ-loop
 returns-2 c =
     let head = c .before in
     let start = head .before .before .before in
-    fill-ends (start .args .sh) (wordsOf (head .loop .table)) (now (start .args .keys)) (head .loop .i) (c .loop-test .left)
+    let ws = wordsOf (head .loop .table) in
+    fill-ends (start .args .sh) ws (now (start .args .keys)) (head .loop .i) (c .loop-test .left)
     ∙ head .loop .inv .1
 
 pub put-all-spec : {M : Type 1} → statement M

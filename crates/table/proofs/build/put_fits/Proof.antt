@@ -21,7 +21,8 @@ returns : tie.Need-returns
 returns c =
     let put = c .before .before .before .before in
     let vs = wordsOf (put .put-key .last .1 .0) in
-    ap (λ (a : PutAnswer). filledIf (hadRoom a) vs) (sym (c .enum-told .given .1)) ∙ room-told (put .put-key .result) vs _ (put .put-key .ensures)
+    ap (λ (a : PutAnswer). filledIf (hadRoom a) vs) (sym (c .enum-told .given .1))
+    ∙ room-told (put .put-key .result) vs _ (put .put-key .ensures)
 
 enum-told-2 : tie.Need-enum-told-2
 enum-told-2 c = search needs
@@ -33,7 +34,8 @@ returns-2 : tie.Need-returns-2
 returns-2 c =
     let put = c .before .before .before .before in
     let vs = wordsOf (put .put-key .last .1 .0) in
-    ap (λ (a : PutAnswer). filledIf (hadRoom a) vs) (sym (c .enum-told2 .given .1)) ∙ room-told (put .put-key .result) vs _ (put .put-key .ensures)
+    ap (λ (a : PutAnswer). filledIf (hadRoom a) vs) (sym (c .enum-told2 .given .1))
+    ∙ room-told (put .put-key .result) vs _ (put .put-key .ensures)
 
 enum-told-3 : tie.Need-enum-told-3
 enum-told-3 c = search needs
@@ -45,7 +47,8 @@ returns-3 : tie.Need-returns-3
 returns-3 c =
     let put = c .before .before .before .before in
     let vs = wordsOf (put .put-key .last .1 .0) in
-    ap (λ (a : PutAnswer). filledIf (hadRoom a) vs) (sym (c .enum-told3 .given .1)) ∙ room-told (put .put-key .result) vs _ (put .put-key .ensures)
+    ap (λ (a : PutAnswer). filledIf (hadRoom a) vs) (sym (c .enum-told3 .given .1))
+    ∙ room-told (put .put-key .result) vs _ (put .put-key .ensures)
 
 pub put-fits-spec : {M : Type 1} → statement M
 put-fits-spec =

@@ -15,15 +15,17 @@ shape-of-requires : tie.Need-shape-of-requires
 shape-of-requires c κs = search needs
 
 good-key-requires : tie.Need-good-key-requires
-good-key-requires c κs = rw (c .shape-of .ensures) (good-table _ _ (sym (c .before .before .good-table .ensures) ∙ c .before .if1 .taken) .0)
+good-key-requires c κs =
+    let good = sym (c .before .before .good-table .ensures) ∙ c .before .if1 .taken in
+    rw (c .shape-of .ensures) (good-table _ _ good .0)
 
 find-key-requires : tie.Need-find-key-requires
 find-key-requires c κs =
     let made = c .before .before in
     let test = made .before in
     let good = good-table _ _ (sym (test .before .good-table .ensures) ∙ test .if1 .taken) in
-    rw (made .shape-of .ensures)
-    (good .0, (good .1, ltb-true _ _ (rw (made .shape-of .ensures) at (sym (c .before .good-key .ensures) ∙ c .if2 .taken))))
+    let low = ltb-true _ _ (sym (c .before .good-key .ensures) ∙ c .if2 .taken) in
+    (rw (made .shape-of .ensures) (good .0), (rw (made .shape-of .ensures) (good .1), low))
 
 returns : tie.Need-returns
 unfolding find

@@ -32,7 +32,8 @@ find-between-requires c κs =
     let look = seen .before .before in
     let start = look .before .before in
     let size = words-length (now (start .args .table)) (places (start .args .sh)) (start .pre .1 .0) in
-    let i = cluster-inside _ _ size (home-place (start .pre .1 .1)) (looks _ _ _ _ (sym (seen .around2 .given .1) ∙ look .look-around .ensures)) in
+    let a = looks _ _ _ _ (sym (seen .around2 .given .1) ∙ look .look-around .ensures) in
+    let i = cluster-inside _ _ size (home-place (start .pre .1 .1)) a in
     (i .ordered, (omega (arith, i .low), i .housed))
 
 returns : tie.Need-returns
@@ -41,14 +42,16 @@ returns c =
     let look = seen .before .before in
     let start = look .before .before in
     let size = words-length (now (start .args .table)) (places (start .args .sh)) (start .pre .1 .0) in
-    sym (found-by _ size (home-place (start .pre .1 .1)) (looks _ _ _ _ (sym (seen .around .given .1) ∙ look .look-around .ensures)))
+    let a = looks _ _ _ _ (sym (seen .around .given .1) ∙ look .look-around .ensures) in
+    sym (found-by _ size (home-place (start .pre .1 .1)) a)
 
 returns-2 : tie.Need-returns-2
 returns-2 c =
     let look = c .before .before in
     let start = look .before .before in
     let size = words-length (now (start .args .table)) (places (start .args .sh)) (start .pre .1 .0) in
-    sym (found-by _ size (home-place (start .pre .1 .1)) (looks _ _ _ _ (sym (c .enum-told .given .1) ∙ look .look-around .ensures)))
+    let a = looks _ _ _ _ (sym (c .enum-told .given .1) ∙ look .look-around .ensures) in
+    sym (found-by _ size (home-place (start .pre .1 .1)) a)
 
 returns-3 : tie.Need-returns-3
 returns-3 c =
@@ -56,8 +59,8 @@ returns-3 c =
     let look = seen .before .before in
     let start = look .before .before in
     let size = words-length (now (start .args .table)) (places (start .args .sh)) (start .pre .1 .0) in
-    c .find-between .ensures
-    ∙ sym (found-by _ size (home-place (start .pre .1 .1)) (looks _ _ _ _ (sym (seen .around2 .given .1) ∙ look .look-around .ensures)))
+    let a = looks _ _ _ _ (sym (seen .around2 .given .1) ∙ look .look-around .ensures) in
+    c .find-between .ensures ∙ sym (found-by _ size (home-place (start .pre .1 .1)) a)
 
 pub find-at-spec : {M : Type 1} → statement M
 find-at-spec =

@@ -2,8 +2,6 @@
 -- Assumes nothing.
 use mathlib.Core.Path.{sym, _∙_, ap}
 use borrow.Author.Needs.{needs}
-use Rattle.rules.specs.Lists.{bitOf}
-use Rattle.rules.specs.Answer.{says}
 use Rattle.cluster.specs.declared.read.Read.{Read}
 use Rattle.cluster.specs.Read.{readOf}
 use Rattle.table.proofs.find.find_between.Statement.{statement}

@@ -16,7 +16,8 @@ remainder-of-requires c κs = search needs
 find-at-requires : tie.Need-find-at-requires
 find-at-requires c κs =
     let start = c .before .before .before in
-    (start .pre .0, (start .pre .1 .0, key-shape _ _ _ _ (c .before .home-place .ensures) (c .remainder-of .ensures) (start .pre .1 .1)))
+    let in-shape = key-shape _ _ _ _ (c .before .home-place .ensures) (c .remainder-of .ensures) (start .pre .1 .1) in
+    (start .pre .0, (start .pre .1 .0, in-shape))
 
 returns : tie.Need-returns
 returns c =

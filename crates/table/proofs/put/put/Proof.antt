@@ -20,7 +20,9 @@ shape-of-requires : tie.Need-shape-of-requires
 shape-of-requires c κs = search needs
 
 good-key-requires : tie.Need-good-key-requires
-good-key-requires c κs = rw (c .shape-of .ensures) (good-table _ _ (sym (c .before .before .good-table .ensures) ∙ c .before .if1 .taken) .0)
+good-key-requires c κs =
+    let good = sym (c .before .before .good-table .ensures) ∙ c .before .if1 .taken in
+    rw (c .shape-of .ensures) (good-table _ _ good .0)
 
 put-key-requires : tie.Need-put-key-requires
 put-key-requires c κs =
@@ -28,8 +30,8 @@ put-key-requires c κs =
     let made = key .before .before in
     let test = made .before in
     let good = good-table _ _ (sym (test .before .good-table .ensures) ∙ test .if1 .taken) in
-    rw (made .shape-of .ensures)
-    (good .0, (good .1, ltb-true _ _ (rw (made .shape-of .ensures) at (sym (key .before .good-key .ensures) ∙ key .if2 .taken))))
+    let low = ltb-true _ _ (sym (key .before .good-key .ensures) ∙ key .if2 .taken) in
+    (rw (made .shape-of .ensures) (good .0), (rw (made .shape-of .ensures) (good .1), low))
 
 same-length : tie.Need-same-length
 same-length c = search needs

@@ -1,6 +1,6 @@
 -- `put_at` meets its contract: what is around the home decides.
 -- Assumes nothing.
-use mathlib.Core.Path.{sym, _∙_, ap}
+use mathlib.Core.Path.{sym, _∙_}
 use borrow.Author.Needs.{needs}
 use native.Mathlib.Omega.{arith}
 use denote.Ref.{now}
@@ -63,16 +63,9 @@ put-between-requires : tie.Need-put-between-requires
 put-between-requires c κs =
     let seen = c .before .before in
     let look = seen .before .before in
-    let start = look .before .before .before in (
-      start .pre .0,
-      (
-        start .pre .1 .0,
-        (
-          start .pre .1 .1,
-          looks _ _ _ _ (sym (seen .around2 .given .1) ∙ look .look-around .ensures),
-        ),
-      ),
-    )
+    let start = look .before .before .before in
+    let a = looks _ _ _ _ (sym (seen .around2 .given .1) ∙ look .look-around .ensures) in
+    (start .pre .0, (start .pre .1 .0, (start .pre .1 .1, a)))
 
 same-length-3 : tie.Need-same-length-3
 same-length-3 c = search needs

@@ -32,13 +32,10 @@ add-beside-requires : tie.Need-add-beside-requires
 add-beside-requires c κs =
     let read = c .before .before in
     let start = read .before .before .before in
-    let size = words-length (now (start .args .table)) (places (start .args .sh)) (start .pre .1 .0) in (
-      start .pre .0,
-      (
-        start .pre .1 .0,
-        ready (start .pre .0) (start .pre .1 .1 .0) size (start .pre .1 .1 .1) (read .read-between .ensures) (c .before .if1 .left),
-      ),
-    )
+    let size = words-length (now (start .args .table)) (places (start .args .sh)) (start .pre .1 .0) in
+    let (i, seen) = start .pre .1 .1 in
+    let g = ready (start .pre .0) i size seen (read .read-between .ensures) (c .before .if1 .left) in
+    (start .pre .0, (start .pre .1 .0, g))
 
 same-length-2 : tie.Need-same-length-2
 same-length-2 c = search needs

@@ -19,13 +19,9 @@ remainder-of-requires c κs = search needs
 
 put-at-requires : tie.Need-put-at-requires
 put-at-requires c κs =
-    let start = c .before .before .before .before in (
-      start .pre .0,
-      (
-        start .pre .1 .0,
-        key-shape _ _ _ _ (c .before .home-place .ensures) (c .remainder-of .ensures) (start .pre .1 .1),
-      ),
-    )
+    let start = c .before .before .before .before in
+    let in-shape = key-shape _ _ _ _ (c .before .home-place .ensures) (c .remainder-of .ensures) (start .pre .1 .1) in
+    (start .pre .0, (start .pre .1 .0, in-shape))
 
 same-length : tie.Need-same-length
 same-length c = search needs
