@@ -59,7 +59,7 @@ unfolding locked any
 zeros-unlocked zero = refl
 zeros-unlocked (suc n) = zeros-unlocked n
 
-zeros-state : (sh : Shape) → State sh (zeros sh) []
+pub zeros-state : (sh : Shape) → State sh (zeros sh) []
 unfolding zeros places isVoid
 zeros-state sh =
     record {
@@ -150,10 +150,10 @@ pub keys-roomy : (sh : Shape) (ks : List ℕ) → remainders sh ≤ 4096 → InK
 unfolding distinct
 keys-roomy sh ks s h few = record { low = s; asc = ascend-asc s (all-within sh ks h); few = few }
 
-inside-ascend : (es : List Entry) → Inside es (ascend es)
+pub inside-ascend : (es : List Entry) → Inside es (ascend es)
 inside-ascend es x h = holds-ascend x es ∙ h
 
-nothing-inside : (us : List Entry) → Inside [] us
+pub nothing-inside : (us : List Entry) → Inside [] us
 unfolding holds any
 nothing-inside us x h = absurd (true≢false (sym h))
 

@@ -133,7 +133,7 @@ pub place≢full : {p : ℕ} → place p ≡ full → ⊥
 place≢full e = let z : _≡_ {A = ℕ} 0 1 = cc in omega arith
 
 -- an inserted entry is among those that the table has room for
-inside-insert : (us es : List Entry) (e : Entry) → Inside es us → holds e us ≡ true → Inside (insert e es) us
+pub inside-insert : (us es : List Entry) (e : Entry) → Inside es us → holds e us ≡ true → Inside (insert e es) us
 inside-insert us es e inside here x h = go (sameEntry x e) refl (sym (holds-insert x e es) ∙ h)
   where
     go : (b : Bool) → sameEntry x e ≡ b → (sameEntry x e || holds x es) ≡ true → holds x us ≡ true
@@ -208,7 +208,7 @@ module _ {sh : Shape} {us : List Entry} {ws : List Word} {es : List Entry} (e : 
             u .few,
           )
 
-put-room :
+pub put-room :
     {sh : Shape} {us : List Entry} {ws : List Word} {es : List Entry} (e : Entry) →
     Roomy sh us → State sh ws es → Inside es us → holds e us ≡ true → Put sh ws es e (after-put sh ws e)
 put-room {sh} {us} {ws} {es} e u t inside here =

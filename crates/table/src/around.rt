@@ -1,0 +1,103 @@
+// The two guards and a key's surroundings, which find and put look at before anything else (01, Answers and their
+// numbers): the home place alone if it is unoccupied, else its cluster and the empty place at each end.
+use cluster::gaps::left_gap;
+use cluster::gaps::right_gap;
+use cluster::run::any_locked;
+use cluster::run::sound_run;
+use rules::Refusal;
+use rules::Shape;
+use words::bytes::word_at;
+use words::place::Place;
+use words::shape::right_guard;
+use words::word::is_void;
+use words::word::lock;
+use words::word::occupied;
+ghost use mathlib.Core.Path.{_≡_};
+ghost use Prim.Native.Nat.{_+_, _*_, _<_};
+ghost use lib.ListN.{length};
+ghost use Rattle.rules.specs.Word.{wordOf};
+ghost use Rattle.rules.specs.Bytes.{wordsOf};
+ghost use Rattle.rules.specs.Shape.{places};
+ghost use Rattle.rules.specs.Table.{guardsVoid};
+ghost use Rattle.words.specs.Range.{InRange};
+ghost use Rattle.theory.specs.Gaps.{HomePlace};
+ghost use Rattle.table.specs.Around.{soundBetween, aloneOf, betweenOf, aroundOf};
+
+// Refused, or free to look for the key: at an empty home, or between the two ends of its cluster.
+pub enum Around {
+    Refused(Refusal),
+    Empty,
+    Cluster(Place, Place),
+}
+
+fn guards_void(sh: Shape, table: &[u8]) -> bool
+    requires { ⌜ InRange sh ⌝ ∗ ⌜ length (now table) ≡ 2 * places sh ⌝ }
+    ensures { λ b. ⌜ b ≡ guardsVoid sh (wordsOf (now (table .entry))) ⌝ }
+{
+    if is_void(word_at(table, Place(0))) {
+        is_void(word_at(table, right_guard(sh)))
+    } else {
+        false
+    }
+}
+
+fn alone(w: u16) -> Around
+    ensures { λ a. ⌜ a ≡ aloneOf (wordOf w) ⌝ }
+{
+    if is_void(w) {
+        if lock(w) {
+            Around::Refused(Refusal::Locked)
+        } else {
+            Around::Empty
+        }
+    } else {
+        Around::Refused(Refusal::Unsound)
+    }
+}
+
+// The cluster between two places and these places themselves.
+fn sound_between(sh: Shape, table: &[u8], l: Place, r: Place) -> bool
+    requires { ⌜ InRange sh ⌝ ∗ ⌜ l .0 < r .0 ⌝ ∗ ⌜ 2 * r .0 + 1 < length (now table) ⌝ }
+    ensures { λ b. ⌜ b ≡ soundBetween sh (wordsOf (now (table .entry))) (l .0) (r .0) ⌝ }
+{
+    if is_void(word_at(table, l)) {
+        if is_void(word_at(table, r)) {
+            sound_run(sh, table, l, r)
+        } else {
+            false
+        }
+    } else {
+        false
+    }
+}
+
+fn between(sh: Shape, table: &[u8], l: Place, r: Place) -> Around
+    requires { ⌜ InRange sh ⌝ ∗ ⌜ length (now table) ≡ 2 * places sh ⌝ ∗ ⌜ l .0 < r .0 ⌝ ∗ ⌜ r .0 < places sh ⌝ }
+    ensures { λ a. ⌜ a ≡ betweenOf sh (wordsOf (now (table .entry))) l r ⌝ }
+{
+    if sound_between(sh, table, l, r) {
+        if any_locked(table, l, Place(r.0 + 1)) {
+            Around::Refused(Refusal::Locked)
+        } else {
+            Around::Cluster(l, r)
+        }
+    } else {
+        Around::Refused(Refusal::Unsound)
+    }
+}
+
+pub fn look_around(sh: Shape, table: &[u8], home: Place) -> Around
+    requires { ⌜ InRange sh ⌝ ∗ ⌜ length (now table) ≡ 2 * places sh ⌝ ∗ ⌜ HomePlace sh (home .0) ⌝ }
+    ensures { λ a. ⌜ a ≡ aroundOf sh (wordsOf (now (table .entry))) (home .0) ⌝ }
+{
+    if guards_void(sh, table) {
+        let w = word_at(table, home);
+        if occupied(w) {
+            between(sh, table, left_gap(table, home), right_gap(table, home))
+        } else {
+            alone(w)
+        }
+    } else {
+        Around::Refused(Refusal::Unsound)
+    }
+}

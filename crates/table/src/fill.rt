@@ -1,0 +1,60 @@
+// The fill figure (01, Answers and their numbers).
+use rules::FillAnswer;
+use rules::Refusal;
+use rules::Shape;
+use words::bytes::word_at;
+use words::place::Place;
+use words::shape::good_table;
+use words::shape::homes;
+use words::shape::shape_of;
+use words::word::occupied;
+ghost use mathlib.Core.Path.{_≡_};
+ghost use Prim.Native.Nat.{_*_, _≤_, _<_};
+ghost use lib.ListN.{length};
+ghost use Rattle.rules.specs.Lists.{bitOf, count};
+ghost use Rattle.rules.specs.Bytes.{wordsOf};
+ghost use Rattle.rules.specs.Shape.{places};
+ghost use Rattle.rules.specs.Fill.{figure as spec-figure, fill as spec-fill};
+ghost use Rattle.rules.specs.Answer.{fillSays};
+ghost use Rattle.words.specs.Range.{InRange};
+ghost use Rattle.theory.specs.Dealt.{isOccupied};
+
+// A bit as a number.
+fn bit_of(b: bool) -> u32
+    ensures { λ n. ⌜ (n ≡ bitOf b) × (n < 2) ⌝ }
+{
+    if b { 1 } else { 0 }
+}
+
+// The occupied ones among the n places of a table.
+fn count_occupied(table: &[u8], n: u32) -> u32
+    requires { ⌜ length (now table) ≡ 2 * n ⌝ ∗ ⌜ n ≤ 1048578 ⌝ }
+    ensures { λ k. ⌜ k ≡ count isOccupied (wordsOf (now (table .entry))) ⌝ }
+{
+    let mut k: u32 = 0;
+    let mut i: u32 = 0;
+    while i < n {
+        k += bit_of(occupied(word_at(table, Place(i))));
+        i += 1;
+    }
+    k
+}
+
+// Occupied words × 1,000 / number of words, rounded down.
+fn figure(sh: Shape, table: &[u8]) -> u32
+    requires { ⌜ InRange sh ⌝ ∗ ⌜ length (now table) ≡ 2 * places sh ⌝ }
+    ensures { λ x. ⌜ x ≡ spec-figure sh (wordsOf (now (table .entry))) ⌝ }
+{
+    let n = homes(sh) + 2;
+    count_occupied(table, n) * 1000 / n
+}
+
+pub fn fill(m: u32, r: u32, table: &[u8]) -> FillAnswer
+    ensures { λ a. ⌜ fillSays a ≡ spec-fill m r (now (table .entry)) ⌝ }
+{
+    if good_table(m, r, table.len()) {
+        FillAnswer::Figure(figure(shape_of(m, r), table))
+    } else {
+        FillAnswer::Refused(Refusal::BadShape)
+    }
+}
