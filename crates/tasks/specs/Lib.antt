@@ -1,0 +1,4 @@
+-- What the contracts of this crate cite, and the laws that its proofs rest on.
+pub mod Fit
+pub mod Ready
+pub mod Taken
