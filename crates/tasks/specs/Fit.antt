@@ -1,5 +1,5 @@
 -- When a record fits (01, Tasks and their steps). `Fits`: what holds of a busy record that fits, and `fitting` that its test tells it.
--- `resting`, `not-resting`, `busy-fits`, `beyond-fits`: how the phase alone decides. `work-asked` to `work-none`: and in phases 8 to 10.
+-- `resting` to `beyond-fits`: how the phase alone decides. `work-none`: where hand, goal and mark are not asked about.
 -- Assumes nothing.
 use Prim.Native.Nat.{ℕ, suc, _≤_, _<_}
 use mathlib.Core.Path.{_≡_, refl, sym, _∙_}
@@ -48,21 +48,31 @@ module _ (t : Task) where
   not-resting awake =
       rw (ne-eqb (t .phase) 0 (λ e. awake (inl e)), ne-eqb (t .phase) 13 (λ e. awake (inr e)))
 
+  -- phases 1 to 12
+  pub is-busy : (t .phase ≡ 0 → ⊥) → t .phase < 13 → busy t ≡ true
+  unfolding busy
+  is-busy not-idle h = rw (le-leb 1 (t .phase) (omega arith), le-leb (t .phase) 12 (omega arith))
+
+  pub idle : t .phase ≡ 0 → busy t ≡ false
+  unfolding busy
+  idle e = rw e
+
+  pub done-or-beyond : 13 ≤ t .phase → busy t ≡ false
+  unfolding busy
+  done-or-beyond h = rw (le-leb 1 (t .phase) (omega arith), lt-leb (t .phase) 12 (omega arith))
+
 module _ (sh : Shape) (t : Task) where
   pub resting-fits : Resting t → fits sh t ≡ true
   unfolding fits
   resting-fits e = rw (resting t e)
 
   pub busy-fits : (Resting t → ⊥) → t .phase < 13 → fits sh t ≡ fitsBusy sh t
-  unfolding fits busy
-  busy-fits awake h =
-      let not-idle : t .phase ≡ 0 → ⊥ = λ e. awake (inl e) in
-      rw (not-resting t awake, le-leb 1 (t .phase) (omega arith), le-leb (t .phase) 12 (omega arith))
+  unfolding fits
+  busy-fits awake h = rw (not-resting t awake, is-busy t (λ e. awake (inl e)) h)
 
   pub beyond-fits : (Resting t → ⊥) → 13 ≤ t .phase → fits sh t ≡ false
-  unfolding fits busy
-  beyond-fits awake h =
-      rw (not-resting t awake, le-leb 1 (t .phase) (omega arith), lt-leb (t .phase) 12 (omega arith))
+  unfolding fits
+  beyond-fits awake h = rw (not-resting t awake, done-or-beyond t h)
 
 -- hand and goal from 1 to 2^m; goal at least 2 for mark 1
 pub record FitsHand (sh : Shape) (t : Task) : Type 0 where

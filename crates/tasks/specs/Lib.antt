@@ -1,4 +1,5 @@
 -- What the contracts of this crate cite, and the laws that its proofs rest on.
 pub mod Fit
+pub mod Given
 pub mod Ready
 pub mod Taken

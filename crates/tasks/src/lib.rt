@@ -2,4 +2,5 @@
 // The thin calls over lent records stand above this crate.
 mod busy;
 mod fits;
+pub mod give;
 mod lock;
