@@ -126,12 +126,12 @@ pub record Added (d : ℕ) (ws : List Word) (es : List Entry) (e : Entry) (p : �
   pub free : locked ws ≡ false → locked vs ≡ false
   pub places : occupied vs ≡ set (occupied ws) p true
 
-locked-append : (u v : List Word) → locked (u ++ v) ≡ (locked u || locked v)
+pub locked-append : (u v : List Word) → locked (u ++ v) ≡ (locked u || locked v)
 unfolding locked any
 locked-append [] v = refl
 locked-append (w ∷ u) v = ap (λ (b : Bool). w .lock || b) (locked-append u v) ∙ sym (or-assoc (w .lock) (locked u) (locked v))
 
-or-parts : (a b : Bool) → (a || b) ≡ false → (a ≡ false) × (b ≡ false)
+pub or-parts : (a b : Bool) → (a || b) ≡ false → (a ≡ false) × (b ≡ false)
 or-parts true b e = absurd (true≢false e)
 or-parts false b e = (refl, e)
 

@@ -10,6 +10,7 @@ pub mod Seen
 pub mod Gaps
 pub mod Order
 pub mod Places
+pub mod Cut
 pub mod SoundTable
 pub mod Pairs
 pub mod Finding
@@ -23,3 +24,4 @@ pub mod Laid
 pub mod Side
 pub mod Enlarge
 pub mod Insertion
+pub mod Moving

@@ -11,16 +11,16 @@ use lib.ListN.{length, getD, take, drop, set, replicate, length-append, length-r
 use lib.Seq.{sets, sets-eq, take-at, drop-at}
 use Rattle.rules.specs.declared.Shape.{Shape}
 use Rattle.rules.specs.Lists.{all}
-use Rattle.rules.specs.Word.{Word, isVoid}
+use Rattle.rules.specs.Word.{Word}
 use Rattle.rules.specs.Entry.{Entry}
 use Rattle.rules.specs.Shape.{homes, remainders, places, rightGuard}
-use Rattle.rules.specs.Table.{at, occupied, leftGap, rightGap, clusterEntries, guardsVoid, locked}
+use Rattle.rules.specs.Table.{at, occupied, leftGap, rightGap, clusterEntries, locked}
 use Rattle.rules.specs.Room.{Room, place, full, roomFor}
 use Rattle.rules.specs.Lay.{holds, insert}
 use Rattle.rules.specs.Answer.{Answer, says, refuses}
 use Rattle.rules.specs.Put.{layRun, enlargedFrom, addAt, Outcome, keeps, writes, addTo, putIn}
 use Rattle.theory.specs.Run.{Run}
-use Rattle.theory.specs.Dealt.{isOccupied, and-left, and-right}
+use Rattle.theory.specs.Dealt.{isOccupied}
 use Rattle.theory.specs.RunLaws.{run-occupied, run-entries}
 use Rattle.theory.specs.Insert.{insert-length}
 use Rattle.theory.specs.Pairs.{lay-length}
@@ -28,8 +28,9 @@ use Rattle.theory.specs.SoundTable.{table-guards}
 use Rattle.theory.specs.Gaps.{Free, Taken, Guarded, HomePlace, Chosen, room-chosen}
 use Rattle.theory.specs.Gaps as gaps
 use Rattle.theory.specs.Seen.{Table, AtGap, InRun, Located, at-gap, in-run, locate}
-use Rattle.theory.specs.Places.{void-free, occupied-at, occupied-length, at-seam, gap-left, gap-right, gap-entries}
+use Rattle.theory.specs.Places.{void-free, occupied-at, at-seam, gap-left, gap-right, gap-entries}
 use Rattle.theory.specs.Places.{run-taken, run-left, run-right, run-cluster-entries}
+use Rattle.theory.specs.Cut.{void-guarded}
 use Rattle.theory.specs.Finding.{origin, Surroundings, surroundings, around-free}
 use Rattle.theory.specs.Adding.{Added, add-home, add-left, add-right}
 
@@ -51,7 +52,7 @@ unfolding layRun
 lay-run-length a es = lay-length es a (replicate (length es) true) es ∙ length-replicate (length es) true
 
 -- adding from the enlarged cluster's first place, and the cluster's entries
-add-from :
+pub add-from :
     (ws : List Word) (e : Entry) (p a : ℕ) (ys : List Entry) →
     enlargedFrom ws (e .home) p ≡ a →
     clusterEntries ws (e .home) ≡ ys → addAt ws e p ≡ sets ws a (layRun a (insert e ys))
@@ -236,13 +237,7 @@ pub data Puts (sh : Shape) (ws : List Word) (es : List Entry) (e : Entry) : Outc
 pub table-guarded :
     (sh : Shape) {ws : List Word} {es : List Entry} →
     length ws ≡ places sh → Table (remainders sh) ws es → Guarded sh (occupied ws)
-unfolding guardsVoid
-table-guarded sh {ws} size t =
-    record {
-      size = occupied-length ws ∙ size;
-      left = occupied-at ws 0 ∙ void-free _ (and-left (isVoid (at ws 0)) _ (table-guards sh size t));
-      right = occupied-at ws (rightGuard sh) ∙ void-free _ (and-right (isVoid (at ws 0)) _ (table-guards sh size t));
-    }
+table-guarded sh {ws} size t = void-guarded sh ws size (table-guards sh size t)
 
 -- a gap on the left that is not the left guard has words before it; one on the right that is not the right guard has words after it
 words-after :

@@ -1,0 +1,349 @@
+-- Put by moving words is put by the rule. `brought`: a fill at either end of a sound run, the moves and the mark leave
+-- the run enlarged, whatever the rest of the table is; phases 8 to 10 do so at the record's left and right.
+-- `add-moves`: so they add what put's definition adds, at either gap of an occupied home. `add-alone`: an unoccupied
+-- home gets one word.
+-- Assumes nothing.
+use Prim.Native.Nat.{ℕ, suc, _+_, _≤_, _<_}
+use mathlib.Core.Path.{_≡_, refl, sym, ap, ap₂, _∙_, subst}
+use mathlib.Core.Bool.{Bool, true, false, _&&_, _||_}
+use mathlib.Core.List.{List, [], _∷_, _++_}
+use native.Mathlib.Omega.{arith}
+use lib.ListN.{length, set, take, drop}
+use lib.Seq.{sets, split-at, length-take-le}
+use borrow.Author.Tests.{eq-eqb}
+use Rattle.rules.specs.declared.Shape.{Shape}
+use Rattle.rules.specs.Lists.{all, any}
+use Rattle.rules.specs.Word.{Word, zeroWord, isVoid}
+use Rattle.rules.specs.Shape.{places, remainders}
+use Rattle.rules.specs.Entry.{Entry}
+use Rattle.rules.specs.Table.{at, occupied, leftGap, rightGap, between, cluster, soundRun}
+use Rattle.rules.specs.Table.{entriesBetween, clusterEntries, guardsVoid, locked}
+use Rattle.rules.specs.Room.{place, roomFor}
+use Rattle.rules.specs.Lay.{holds, insert, hasHome, endsGroup, lay}
+use Rattle.rules.specs.Find.{around, soundAround, lockedAround}
+use Rattle.rules.specs.Put.{layRun, enlargedFrom, addAt}
+use Rattle.rules.specs.Phase.{aloneWord, smaller, markOf}
+use Rattle.theory.specs.Run.{Run}
+use Rattle.theory.specs.Dealt.{isOccupied, and-left, and-right}
+use Rattle.theory.specs.RunLaws.{sound-is-run}
+use Rattle.theory.specs.Gaps.{Side, HomePlace, gap}
+use Rattle.theory.specs.Gaps as gaps
+use Rattle.theory.specs.Side.{beside, begins, stands}
+use Rattle.theory.specs.Places.{void-free, occupied-at, gap-left, gap-entries}
+use Rattle.theory.specs.Pairs.{unlocked-same}
+use Rattle.theory.specs.Adding.{locked-append, or-parts}
+use Rattle.theory.specs.Putting.{spliced, add-from}
+use Rattle.theory.specs.Motion.{fillAt, finish}
+use Rattle.theory.specs.Region.{locks, length-locks}
+use Rattle.theory.specs.Insertion as insertion
+use Rattle.theory.specs.Insertion.{insertion}
+use Rattle.theory.specs.Cut.{CutBeside, cut-beside, CutHome, cut, cut-closed, cut-home, end, from, upTo}
+
+-- ---- between two given places
+
+-- what the read step has found: a sound run between places l and r, e's home inside it, e not among its keys, and the
+-- place to fill void, lock bit aside
+pub record Readable (side : Side) (sh : Shape) (ws : List Word) (l r : ℕ) (e : Entry) : Type 0 where
+  pub low : remainders sh ≤ 4096
+  pub remainder : e .remainder < remainders sh
+  pub after : l < e .home
+  pub before : e .home < r
+  pub inside : r < length ws
+  pub taken : all isOccupied (between ws l r) ≡ true
+  pub sound : soundRun sh (between ws l r) ≡ true
+  pub void : isVoid (at ws (end side l r)) ≡ true
+  pub new : holds e (entriesBetween ws l r) ≡ false
+
+-- the table with e filled in at that place and brought to its goal: one stretch is new, and is the run enlarged by e,
+-- with the lock bits that stood there
+pub record Brought (side : Side) (sh : Shape) (ws : List Word) (l r : ℕ) (e : Entry) : Type 0 where
+  pub region : List Word
+  pub words :
+      finish
+      (fillAt (e .remainder) ws (end side l r))
+      (end side l r)
+      (from side l + smaller e (entriesBetween ws l r))
+      (markOf e (entriesBetween ws l r))
+      (e .home)
+      ≡ take (from side l) ws ++ (region ++ drop (upTo side r) ws)
+  pub enlarged : Run (remainders sh) (from side l) region (insert e (entriesBetween ws l r))
+  pub locked : locks region ≡ locks (beside side (at ws (end side l r)) (between ws l r))
+
+-- the insertion theorem, through the cut
+pub brought :
+    (side : Side) {sh : Shape} {ws : List Word} {l r : ℕ} {e : Entry} →
+    Readable side sh ws l r e → Brought side sh ws l r e
+unfolding entriesBetween
+brought side {sh} {ws} {l} {r} {e} h =
+    record {
+      region = added .region;
+      words =
+          (λ j.
+          finish
+          (fillAt (e .remainder) (c .words j) (sym here j))
+          (sym here j)
+          (sym (c .size) j + smaller e es)
+          (markOf e es)
+          (e .home))
+          ∙ added .words;
+      enlarged = subst (λ (a : ℕ). Run (remainders sh) a (added .region) (insert e es)) (c .size) (added .enlarged);
+      locked = added .locked;
+    }
+  where
+    c : CutBeside side ws l r
+    c = cut-beside side ws l r (omega arith) (h .inside)
+
+    run : List Word
+    run = between ws l r
+
+    es : List Entry
+    es = entriesBetween ws l r
+
+    begun : begins side (length (take (from side l) ws)) ≡ suc l
+    begun = ap (begins side) (c .size) ∙ c .run
+
+    here : stands side (length (take (from side l) ws)) (length run) ≡ end side l r
+    here = ap (λ (a : ℕ). stands side a (length run)) (c .size) ∙ c .stands
+
+    added :
+        insertion.Added
+        side
+        (remainders sh)
+        (take (from side l) ws)
+        run
+        (drop (upTo side r) ws)
+        (at ws (end side l r))
+        e
+        es
+    added =
+        insertion
+        side
+        (take (from side l) ws)
+        run
+        (drop (upTo side r) ws)
+        (at ws (end side l r))
+        e
+        es
+        (record {
+          void = h .void;
+          low = h .low;
+          laid =
+              subst
+              (λ (a : ℕ). Run (remainders sh) a run es)
+              (sym begun)
+              (sound-is-run sh (suc l) run (h .low) (h .taken) (h .sound));
+          remainder = h .remainder;
+          after = omega (arith, begun, h .after);
+          before = omega (arith, begun, h .before, cut ws l r (omega arith) (h .inside) .inside);
+          new = h .new;
+        })
+
+-- ---- put
+
+-- what put has found where it goes on to add e: sound and unlocked surroundings, and e not among their keys
+pub record Addable (sh : Shape) (ws : List Word) (e : Entry) : Type 0 where
+  pub low : remainders sh ≤ 4096
+  pub remainder : e .remainder < remainders sh
+  pub home : HomePlace sh (e .home)
+  pub size : length ws ≡ places sh
+  pub sound : soundAround sh ws (e .home) ≡ true
+  pub free : lockedAround ws (e .home) ≡ false
+  pub new : holds e (clusterEntries ws (e .home)) ≡ false
+
+-- the parts of sound surroundings
+record SoundAround (sh : Shape) (ws : List Word) (h : ℕ) : Type 0 where
+  guards : guardsVoid sh ws ≡ true
+  left : isVoid (at ws (leftGap (occupied ws) h)) ≡ true
+  right : isVoid (at ws (rightGap (occupied ws) h)) ≡ true
+  run : soundRun sh (cluster ws h) ≡ true
+
+sound-around : (sh : Shape) (ws : List Word) (h : ℕ) → soundAround sh ws h ≡ true → SoundAround sh ws h
+unfolding soundAround
+sound-around sh ws h sound =
+    let words = and-left (guardsVoid sh ws && _) (soundRun sh (cluster ws h)) sound in
+    let ends = and-right (guardsVoid sh ws) _ words in
+    record {
+      guards = and-left (guardsVoid sh ws) _ words;
+      left = and-left (isVoid (at ws (leftGap (occupied ws) h))) _ ends;
+      right = and-right (isVoid (at ws (leftGap (occupied ws) h))) _ ends;
+      run = and-right (guardsVoid sh ws && _) (soundRun sh (cluster ws h)) sound;
+    }
+
+locked-locks : (ws : List Word) → locked ws ≡ any (λ (b : Bool). b) (locks ws)
+unfolding locked any
+locked-locks [] = refl
+locked-locks (w ∷ ws) = ap (λ (b : Bool). w .lock || b) (locked-locks ws)
+
+-- of an unlocked run with a word at each end, the run with one of the two is unlocked
+unlocked-beside :
+    (side : Side) (ws run : List Word) (l r : ℕ) →
+    locked (at ws l ∷ (run ++ (at ws r ∷ []))) ≡ false → locked (beside side (at ws (end side l r)) run) ≡ false
+unlocked-beside gaps.left ws run l r free =
+    or-parts (locked (at ws l ∷ run)) _ (sym (locked-append (at ws l ∷ run) (at ws r ∷ [])) ∙ free) .0
+unlocked-beside gaps.right ws run l r free =
+    or-parts (locked (at ws l ∷ [])) _ (sym (locked-append (at ws l ∷ []) (run ++ (at ws r ∷ []))) ∙ free) .1
+
+-- an entry laid alone at its home
+lay-alone : (e : Entry) → layRun (e .home) (insert e []) ≡ aloneWord (e .remainder) ∷ []
+unfolding layRun insert lay hasHome any endsGroup
+lay-alone e =
+    ap
+    (λ (b : Bool).
+    record { remainder = e .remainder; occupied = true; virgin = b || false; change = true; lock = false } ∷ [])
+    (eq-eqb (e .home) (e .home) refl)
+
+module _ {sh : Shape} {ws : List Word} {e : Entry} (a : Addable sh ws e) where
+  look : SoundAround sh ws (e .home)
+  look = sound-around sh ws (e .home) (a .sound)
+
+  module _ (full : at ws (e .home) .occupied ≡ true) where
+    abbrev l : ℕ
+    l = leftGap (occupied ws) (e .home)
+
+    abbrev r : ℕ
+    r = rightGap (occupied ws) (e .home)
+
+    apart : CutHome ws (e .home)
+    apart = cut-home sh ws (e .home) (a .size) (look .guards) (a .home) full
+
+    ordered : l < r
+    ordered = omega (arith, apart .after, apart .before)
+
+    end-void : (side : Side) → isVoid (at ws (end side l r)) ≡ true
+    end-void gaps.left = look .left
+    end-void gaps.right = look .right
+
+    readable : (side : Side) → Readable side sh ws l r e
+    unfolding cluster clusterEntries
+    readable side =
+        record {
+          low = a .low;
+          remainder = a .remainder;
+          after = apart .after;
+          before = apart .before;
+          inside = apart .inside;
+          taken = apart .taken;
+          sound = look .run;
+          void = end-void side;
+          new = a .new;
+        }
+
+    unlocked : (side : Side) → locked (beside side (at ws (end side l r)) (between ws l r)) ≡ false
+    unfolding around lockedAround
+    unlocked side =
+        unlocked-beside
+        side
+        ws
+        (between ws l r)
+        l
+        r
+        (ap locked (sym (cut-closed ws l r ordered (apart .inside))) ∙ a .free)
+
+    begins-from : (side : Side) → enlargedFrom ws (e .home) (end side l r) ≡ from side l
+    unfolding enlargedFrom
+    begins-from gaps.left = omega arith
+    begins-from gaps.right = omega (arith, ordered)
+
+    add-end :
+        (side : Side) →
+        addAt ws e (end side l r)
+        ≡ finish
+        (fillAt (e .remainder) ws (end side l r))
+        (end side l r)
+        (enlargedFrom ws (e .home) (end side l r) + smaller e (clusterEntries ws (e .home)))
+        (markOf e (clusterEntries ws (e .home)))
+        (e .home)
+    unfolding clusterEntries
+    add-end side =
+        add-from ws e p (from side l) es (begins-from side) refl
+        ∙ ap (sets ws (from side l)) laid
+        ∙ ap (λ (vs : List Word). sets vs (from side l) (b .region)) (c .words)
+        ∙ spliced
+        (take (from side l) ws)
+        mid
+        (drop (upTo side r) ws)
+        (b .region)
+        (from side l)
+        (sym (c .size))
+        (length-locks (b .region) mid (b .locked))
+        ∙ sym (b .words)
+        ∙ ap
+        (λ (n : ℕ). finish (fillAt (e .remainder) ws p) p (n + smaller e es) (markOf e es) (e .home))
+        (sym (begins-from side))
+      where
+        p : ℕ
+        p = end side l r
+
+        es : List Entry
+        es = clusterEntries ws (e .home)
+
+        mid : List Word
+        mid = beside side (at ws p) (between ws l r)
+
+        c : CutBeside side ws l r
+        c = cut-beside side ws l r ordered (apart .inside)
+
+        b : Brought side sh ws l r e
+        b = brought side (readable side)
+
+        laid : layRun (from side l) (insert e es) ≡ b .region
+        laid =
+            b .enlarged .laid
+            ∙ unlocked-same
+            (b .region)
+            (locked-locks (b .region)
+            ∙ ap (any (λ (x : Bool). x)) (b .locked)
+            ∙ sym (locked-locks mid)
+            ∙ unlocked side)
+
+    end-gap : (side : Side) → end side l r ≡ gap side (occupied ws) (e .home)
+    end-gap gaps.left = refl
+    end-gap gaps.right = refl
+
+    -- at an occupied home: the fill at either gap, and finishing
+    pub add-moves :
+        (side : Side) →
+        addAt ws e (gap side (occupied ws) (e .home))
+        ≡ finish
+        (fillAt (e .remainder) ws (gap side (occupied ws) (e .home)))
+        (gap side (occupied ws) (e .home))
+        (enlargedFrom ws (e .home) (gap side (occupied ws) (e .home)) + smaller e (clusterEntries ws (e .home)))
+        (markOf e (clusterEntries ws (e .home)))
+        (e .home)
+    add-moves side = rw (end-gap side) at (add-end side)
+
+  -- an unoccupied home is the place that the rule names, and gets one word
+  module _ (empty : at ws (e .home) .occupied ≡ false) where
+    pub room-alone : roomFor sh (occupied ws) (e .home) ≡ place (e .home)
+    unfolding roomFor
+    room-alone = rw (occupied-at ws (e .home), empty)
+
+    pub add-alone : addAt ws e (e .home) ≡ set ws (e .home) (aloneWord (e .remainder))
+    unfolding enlargedFrom places guardsVoid
+    add-alone =
+        add-from ws e (e .home) (e .home) [] (omega (arith, own-gap, here)) no-entries
+        ∙ ap (sets ws (e .home)) (lay-alone e)
+      where
+        inside : e .home < length ws
+        inside = omega (arith, a .home .last, a .size)
+
+        words : ws ≡ take (e .home) ws ++ (at ws (e .home) ∷ drop (suc (e .home)) ws)
+        words = split-at ws (e .home) zeroWord inside
+
+        here : e .home ≡ length (take (e .home) ws)
+        here = sym (length-take-le (e .home) ws (omega (arith, inside)))
+
+        origin : at (take (e .home) ws ++ (at ws (e .home) ∷ drop (suc (e .home)) ws)) 0 .occupied ≡ false
+        origin =
+            ap (λ (vs : List Word). at vs 0 .occupied) (sym words)
+            ∙ void-free (at ws 0) (and-left (isVoid (at ws 0)) _ (look .guards))
+
+        own-gap : leftGap (occupied ws) (e .home) ≡ length (take (e .home) ws)
+        own-gap =
+            ap₂ (λ (vs : List Word) (q : ℕ). leftGap (occupied vs) q) words here
+            ∙ gap-left (take (e .home) ws) (at ws (e .home)) (drop (suc (e .home)) ws) empty origin
+
+        no-entries : clusterEntries ws (e .home) ≡ []
+        no-entries =
+            ap₂ clusterEntries words here
+            ∙ gap-entries (take (e .home) ws) (at ws (e .home)) (drop (suc (e .home)) ws) empty origin
