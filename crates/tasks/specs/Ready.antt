@@ -18,7 +18,8 @@ use Rattle.rules.specs.Record.{homePlace}
 use Rattle.words.specs.Range.{InRange, homes-high, remainders-high}
 use Rattle.words.specs.Split.{split-in-shape, remainder-below}
 use Rattle.theory.specs.Places.{void-free}
-use Rattle.tasks.specs.Fit.{Fits}
+use Rattle.theory.specs.Motion.{toward, toward-lt}
+use Rattle.tasks.specs.Fit.{Fits, FitsHand}
 
 -- a shape in range, a table of its length, void guards, and a record in phase n that fits
 pub record Ready (n : ℕ) (sh : Shape) (bytes : List ℕ) (t : Task) : Type 0 where
@@ -64,6 +65,28 @@ module _ {n : ℕ} {sh : Shape} {bytes : List ℕ} {t : Task} (ready : Ready n s
   pub right-small : 3 ≤ n → t .right < 4294967295
   unfolding rightGuard
   right-small h = let high = ready .fits .right-high (omega arith) in omega (arith, homes-high sh (ready .range))
+
+  -- in phases 8 to 10 hand and goal lie between the guards, and so does the neighbour of hand
+  pub hand-bounds : 8 ≤ n → n ≤ 10 → FitsHand sh t
+  hand-bounds low high = ready .fits .hand (omega arith) (omega arith)
+
+  pub hand-inside : 8 ≤ n → n ≤ 10 → 2 * t .hand + 1 < length bytes
+  unfolding rightGuard
+  hand-inside low high = inside (omega (arith, hand-bounds low high))
+
+  pub goal-inside : 8 ≤ n → n ≤ 10 → 2 * t .goal + 1 < length bytes
+  unfolding rightGuard
+  goal-inside low high = inside (omega (arith, hand-bounds low high))
+
+  pub hand-apart : n ≡ 9 → t .hand ≡ t .goal → ⊥
+  hand-apart e = ready .fits .apart (ready .phase ∙ e)
+
+  pub neighbour-inside : n ≡ 9 → 2 * toward (t .hand) (t .goal) + 1 < length bytes
+  unfolding rightGuard
+  neighbour-inside e =
+      let bounds = hand-bounds (omega arith) (omega arith) in
+      let below = toward-lt (t .hand) (t .goal) (suc (homes sh)) (hand-apart e) (omega arith) (omega arith) in
+      inside (omega arith)
 
   -- an occupied place is not the left guard
   pub occupied-positive : (p : ℕ) → at (wordsOf bytes) p .occupied ≡ true → 1 ≤ p

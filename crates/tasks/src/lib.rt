@@ -4,3 +4,5 @@ mod busy;
 mod fits;
 pub mod give;
 mod lock;
+mod seek;
+mod settle;
