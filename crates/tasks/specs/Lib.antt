@@ -3,3 +3,4 @@ pub mod Fit
 pub mod Given
 pub mod Ready
 pub mod Taken
+pub mod Stepping
