@@ -67,7 +67,7 @@ pub data Dealt (d : ℕ) : List ℕ → List Word → List Entry → Type 0 wher
 
 -- ---- from the rules: a run whose groups are low, rising and ended, with a home for each group
 -- a run that ends in change has a change bit
-ends-counted : (w : Word) (ws : List Word) → endsInChange (w ∷ ws) ≡ true → 0 < count isChange (w ∷ ws)
+pub ends-counted : (w : Word) (ws : List Word) → endsInChange (w ∷ ws) ≡ true → 0 < count isChange (w ∷ ws)
 unfolding endsInChange count
 ends-counted w [] ends = rw ends (omega arith)
 ends-counted w (v ∷ ws) ends = omega (arith, ends-counted v ws ends)

@@ -48,7 +48,7 @@ virgin-rising c p (w ∷ ws) room = go (w .virgin) (virgin-rising c (suc p) ws (
     go true up = rising-next (le-refl p) (omega arith) up
     go false up = rising-from (omega arith) up
 
-virgin-count : (p : ℕ) (ws : List Word) → length (virginPlaces p ws) ≡ count isVirgin ws
+pub virgin-count : (p : ℕ) (ws : List Word) → length (virginPlaces p ws) ≡ count isVirgin ws
 unfolding virginPlaces count
 virgin-count p [] = refl
 virgin-count p (w ∷ ws) = go (w .virgin) (virgin-count (suc p) ws)

@@ -1,0 +1,31 @@
+-- `look` meets its contract: a law for each order of the two keys.
+-- Assumes nothing.
+use borrow.Author.Needs.{needs}
+use mathlib.Core.Path.{sym}
+use Rattle.cluster.specs.Read.{look-before, look-below, look-equal, look-above, look-beyond}
+use Rattle.cluster.proofs.read.look.Statement.{statement}
+use Rattle.cluster.proofs.read.look.Tie as tie
+
+add-t8 : tie.Need-add-t8
+add-t8 c = search needs
+
+add-t13 : tie.Need-add-t13
+add-t13 c = search needs
+
+returns : tie.Need-returns
+returns c = sym (look-before _ _ _ (c .before .if1 .taken))
+
+returns-2 : tie.Need-returns-2
+returns-2 c = sym (look-below _ _ _ (c .before .before .if2 .taken) (c .before .if3 .taken))
+
+returns-3 : tie.Need-returns-3
+returns-3 c = sym (look-equal _ _ _ (c .before .before .if2 .taken) (c .if4 .taken))
+
+returns-4 : tie.Need-returns-4
+returns-4 c = sym (look-above _ _ _ (c .before .before .if2 .taken) (c .before .if3 .left) (c .if4 .left))
+
+returns-5 : tie.Need-returns-5
+returns-5 c = sym (look-beyond _ _ _ (c .before .before .before .if1 .left) (c .if2 .left))
+
+pub look-spec : {M : Type 1} → statement M
+look-spec = tie.close (tie.spec add-t8 add-t13 returns returns-2 returns-3 returns-4 returns-5)

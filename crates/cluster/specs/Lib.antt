@@ -1,0 +1,5 @@
+-- The laws that the code of this crate needs of the rules: one step, the stop and the end of each loop.
+pub mod Scan
+pub mod Run
+pub mod Homes
+pub mod Read

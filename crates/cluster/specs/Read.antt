@@ -1,0 +1,199 @@
+-- What a read gives, `readOf`, by the rules' `holds`, `smaller` and `markOf`; and the same key by key:
+-- `look` takes one key, `after` is what a read gives after some were seen.
+-- Assumes nothing.
+use Prim.Native.Nat.{ℕ, suc, _+_, _*_, _≤_, _<_}
+use mathlib.Core.Path.{_≡_, refl, sym, _∙_, ap}
+use mathlib.Core.Bool.{Bool, true, false, not, cond, _&&_, _||_, or-false, and-true, or-assoc, and-assoc, or-comm, and-comm}
+use mathlib.Core.List.{List, [], _∷_}
+use native.Mathlib.Numerals.{add-one}
+use native.Mathlib.Nat.{zero-add, add-zero, add-assoc}
+use native.Mathlib.Omega.{arith}
+use lib.ListN.{length}
+use lib.Seq.{slice}
+use borrow.Author.Tests.{lt-ltb, le-ltb, eq-eqb, ne-eqb}
+use Rattle.rules.specs.Lists.{bitOf, count, all, any}
+use Rattle.rules.specs.Word.{wordOf}
+use Rattle.rules.specs.Bytes.{wordsOf}
+use Rattle.rules.specs.Entry.{Entry, sameHome, sameEntry, precedes}
+use Rattle.rules.specs.Table.{at, between, deal, entriesBetween}
+use Rattle.rules.specs.Lay.{holds}
+use Rattle.rules.specs.Phase.{smaller, markOf}
+use Rattle.words.specs.Number.{bit-small}
+use Rattle.cluster.specs.Run.{run-end}
+use Rattle.cluster.specs.Homes.{homesFrom, firstOf, Housed, Owed, housed-owed, still-owed, next-entry}
+use Rattle.cluster.specs.declared.read.Read.{Read}
+use Rattle.cluster.specs.declared.read.Seen.{Seen}
+
+unfoldable pub readOf : Entry → List Entry → Read
+readOf e es = record { held = holds e es; smaller = smaller e es; mark = markOf e es }
+
+-- the entry f is seen, where e is looked for
+unfoldable pub look : Entry → Entry → Seen → Seen
+look e f s =
+    record {
+      held = sameEntry e f || s .held;
+      smaller = s .smaller + bitOf (precedes f e);
+      grouped = sameHome e f || s .grouped;
+      largest = (not (sameHome e f) || precedes f e) && s .largest;
+    }
+
+-- ---- where f has an earlier home, the same with a smaller, equal or larger remainder, or a later one
+module _ (e f : Entry) (s : Seen) where
+  pub look-before :
+      f .home < e .home →
+      look e f s
+      ≡ record { held = s .held; smaller = s .smaller + 1; grouped = s .grouped; largest = s .largest }
+  unfolding look sameEntry sameHome precedes
+  look-before h = rw (lt-ltb (f .home) (e .home) h, ne-eqb (e .home) (f .home) (λ q. omega arith))
+
+  pub look-below :
+      f .home ≡ e .home → f .remainder < e .remainder →
+      look e f s ≡ record { held = s .held; smaller = s .smaller + 1; grouped = true; largest = s .largest }
+  unfolding look sameEntry sameHome precedes
+  look-below q l =
+      rw (
+        le-ltb (f .home) (e .home) (omega arith),
+        eq-eqb (f .home) (e .home) q,
+        eq-eqb (e .home) (f .home) (sym q),
+        lt-ltb (f .remainder) (e .remainder) l,
+        ne-eqb (e .remainder) (f .remainder) (λ z. omega arith),
+      )
+
+  pub look-equal :
+      f .home ≡ e .home → e .remainder ≡ f .remainder →
+      look e f s ≡ record { held = true; smaller = s .smaller; grouped = true; largest = false }
+  unfolding look sameEntry sameHome precedes
+  look-equal q z =
+      rw (
+        le-ltb (f .home) (e .home) (omega arith),
+        eq-eqb (f .home) (e .home) q,
+        eq-eqb (e .home) (f .home) (sym q),
+        le-ltb (f .remainder) (e .remainder) (omega arith),
+        eq-eqb (e .remainder) (f .remainder) z,
+        add-zero (s .smaller),
+      )
+
+  pub look-above :
+      f .home ≡ e .home → e .remainder ≤ f .remainder → (e .remainder ≡ f .remainder → ⊥) →
+      look e f s ≡ record { held = s .held; smaller = s .smaller; grouped = true; largest = false }
+  unfolding look sameEntry sameHome precedes
+  look-above q l n =
+      rw (
+        le-ltb (f .home) (e .home) (omega arith),
+        eq-eqb (f .home) (e .home) q,
+        eq-eqb (e .home) (f .home) (sym q),
+        le-ltb (f .remainder) (e .remainder) l,
+        ne-eqb (e .remainder) (f .remainder) n,
+        add-zero (s .smaller),
+      )
+
+  pub look-beyond : e .home ≤ f .home → (f .home ≡ e .home → ⊥) → look e f s ≡ s
+  unfolding look sameEntry sameHome precedes
+  look-beyond l n =
+      rw (
+        le-ltb (f .home) (e .home) l,
+        ne-eqb (f .home) (e .home) n,
+        ne-eqb (e .home) (f .home) (λ q. n (sym q)),
+        add-zero (s .smaller),
+      )
+
+-- one key more is at most one smaller key more
+pub look-counts : (e f : Entry) (s : Seen) → look e f s .smaller ≤ s .smaller + 1
+unfolding look
+look-counts e f s = omega (arith, bit-small (precedes f e))
+
+-- ---- some seen, some to come
+-- what a read gives where s was seen before the entries es
+unfoldable pub after : Entry → Seen → List Entry → Read
+after e s es =
+    record {
+      held = s .held || holds e es;
+      smaller = s .smaller + smaller e es;
+      mark =
+          cond (s .grouped || any (sameHome e) es)
+          (cond (s .largest && all (λ (f : Entry). not (sameHome e f) || precedes f e) es) 1 0)
+          2;
+    }
+
+-- nothing was seen
+abbrev pub unseen : Seen
+unseen = record { held = false; smaller = 0; grouped = false; largest = true }
+
+pub after-start : (e : Entry) (es : List Entry) → after e unseen es ≡ readOf e es
+unfolding after readOf markOf
+after-start e es = rw (zero-add (smaller e es))
+
+pub after-step : (e f : Entry) (s : Seen) (es : List Entry) → after e (look e f s) es ≡ after e s (f ∷ es)
+unfolding after look holds smaller any all count
+after-step e f s es =
+    rw (
+      or-comm (sameEntry e f) (s .held),
+      or-assoc (s .held) (sameEntry e f) (holds e es),
+      add-assoc (s .smaller) (bitOf (precedes f e)) (smaller e es),
+      or-comm (sameHome e f) (s .grouped),
+      or-assoc (s .grouped) (sameHome e f) (any (sameHome e) es),
+      and-comm (not (sameHome e f) || precedes f e) (s .largest),
+      and-assoc
+          (s .largest)
+          (not (sameHome e f) || precedes f e)
+          (all (λ (g : Entry). not (sameHome e g) || precedes g e) es),
+    )
+
+pub after-end :
+    (e : Entry) (s : Seen) →
+    after e s []
+    ≡ record { held = s .held; smaller = s .smaller; mark = cond (s .grouped) (cond (s .largest) 1 0) 2 }
+unfolding after holds smaller any all count
+after-end e s = rw (or-false (s .held), add-zero (s .smaller), or-false (s .grouped), and-true (s .largest))
+
+-- ---- the read of a run, in one pass
+-- s was seen, and the homes from v on and the words from i on are to come; a is what the whole read gives
+pub record Reading (e : Entry) (bs : List ℕ) (r : ℕ) (a : Read) (s : Seen) (v i : ℕ) : Type 0 where
+  pub counted : s .smaller ≤ i
+  pub owed : Owed (homesFrom (wordsOf bs) r v) (slice i r (wordsOf bs))
+  pub whole : after e s (deal (homesFrom (wordsOf bs) r v) (slice i r (wordsOf bs))) ≡ a
+
+module _ (e : Entry) (bs : List ℕ) (r : ℕ) where
+  -- what the whole read gives, before the first place after l
+  pub read-whole :
+      (l : ℕ) →
+      after e unseen (deal (homesFrom (wordsOf bs) r (l + 1)) (slice (l + 1) r (wordsOf bs)))
+      ≡ readOf e (entriesBetween (wordsOf bs) l r)
+  unfolding entriesBetween
+  read-whole l = rw add-one (after-start e _)
+
+  pub reading-start :
+      (l : ℕ) → Housed (between (wordsOf bs) l r) →
+      Reading e bs r
+      (after e unseen (deal (homesFrom (wordsOf bs) r (l + 1)) (slice (l + 1) r (wordsOf bs))))
+      unseen
+      (l + 1)
+      (l + 1)
+  reading-start l h =
+      record {
+        counted = omega arith;
+        owed = rw add-one (housed-owed (suc l) (between (wordsOf bs) l r) h);
+        whole = refl;
+      }
+
+  pub reading-step :
+      (a : Read) (s : Seen) (v i : ℕ) → Reading e bs r a s v i → i < r → 2 * r ≤ length bs →
+      (w : ℕ) → wordOf w ≡ at (wordsOf bs) i →
+      (h x y : ℕ) → h ≡ firstOf r (homesFrom (wordsOf bs) r v) → x ≡ bitOf (wordOf w .change) →
+      y ≡ wordOf w .remainder → (t : Seen) → t ≡ look e (record { home = h; remainder = y }) s →
+      Reading e bs r a t (h + x) (i + 1)
+  reading-step a s v i g lt within w word h x y home-is bit-is remainder-is t seen =
+      record {
+        counted = omega (arith, look-counts e (record { home = h; remainder = y }) s, ap (λ (u : Seen). u .smaller) seen);
+        owed = still-owed bs i r v w lt within word (g .owed) h x y home-is bit-is remainder-is;
+        whole =
+            rw seen (after-step e (record { home = h; remainder = y }) s _)
+            ∙ ap (after e s) (sym (next-entry bs i r v w lt within word (g .owed) h x y home-is bit-is remainder-is))
+            ∙ g .whole;
+      }
+
+  pub reading-end :
+      (a : Read) (s : Seen) (v i : ℕ) → Reading e bs r a s v i → r ≤ i →
+      record { held = s .held; smaller = s .smaller; mark = cond (s .grouped) (cond (s .largest) 1 0) 2 } ≡ a
+  unfolding deal
+  reading-end a s v i g h = sym (after-end e s) ∙ rw (run-end bs i r h) at (g .whole)

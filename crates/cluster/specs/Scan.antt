@@ -1,0 +1,51 @@
+-- The gaps on the two sides of a place, found by going from place to place: a step, the stop and the end of each search.
+-- Assumes nothing.
+use Prim.Native.Nat.{ℕ, zero, suc, _+_, _-_, _*_, _/_, _≤_, _<_}
+use mathlib.Core.Path.{_≡_, refl, sym, _∙_, ap}
+use mathlib.Core.Bool.{Bool, true, false}
+use mathlib.Core.List.{List, [], _∷_}
+use native.Mathlib.Numerals.{add-one}
+use native.Mathlib.Nat.{add-zero}
+use native.Mathlib.Omega.{arith}
+use lib.ListN.{length, getD, drop, drop-of-length-le}
+use lib.Seq.{drop-cons}
+use Rattle.rules.specs.Word.{Word}
+use Rattle.rules.specs.Bytes.{wordsOf}
+use Rattle.rules.specs.Table.{occupied, leftGap, lead, rightGap}
+
+-- the number of a table's words: a last byte without its fellow is none
+pub words-count : (bs : List ℕ) → length (wordsOf bs) ≡ length bs / 2
+unfolding wordsOf
+words-count [] = refl
+words-count (low ∷ []) = refl
+words-count (low ∷ high ∷ bs) = omega (arith, words-count bs)
+
+module _ (os : List Bool) where
+  -- to the left
+  pub left-step : (i : ℕ) → 0 < i → getD os i false ≡ true → leftGap os (i - 1) ≡ leftGap os i
+  unfolding leftGap
+  left-step zero h t = absurd (omega arith)
+  left-step (suc i) h t = let back : suc i - 1 ≡ i = omega arith in rw (back, t)
+
+  pub left-stop : (i : ℕ) → 0 < i → getD os i false ≡ false → leftGap os i ≡ i
+  unfolding leftGap
+  left-stop zero h t = absurd (omega arith)
+  left-stop (suc i) h t = rw t
+
+  pub left-end : (i : ℕ) → i ≤ 0 → leftGap os i ≡ 0
+  unfolding leftGap
+  left-end zero h = refl
+  left-end (suc i) h = absurd (omega arith)
+
+  -- to the right
+  pub right-step : (i : ℕ) → i < length os → getD os i false ≡ true → rightGap os (i + 1) ≡ rightGap os i
+  unfolding rightGap lead
+  right-step i h t = rw (add-one, drop-cons os i false h, t) (omega arith)
+
+  pub right-stop : (i : ℕ) → i < length os → getD os i false ≡ false → rightGap os i ≡ i
+  unfolding rightGap lead
+  right-stop i h t = rw (drop-cons os i false h, t) (add-zero i)
+
+  pub right-end : (i : ℕ) → length os ≤ i → rightGap os i ≡ i
+  unfolding rightGap lead
+  right-end i h = rw (drop-of-length-le os {i = i} h) (add-zero i)

@@ -1,0 +1,104 @@
+// A run of places seen as one: is any locked, are all occupied, is it a sound cluster (01, Shape and layout).
+use rules::Shape;
+use words::bytes::word_at;
+use words::place::Place;
+use words::shape::remainders;
+use words::word::change;
+use words::word::lock;
+use words::word::occupied;
+use words::word::remainder;
+use words::word::virgin;
+ghost use mathlib.Core.Path.{_≡_};
+ghost use mathlib.Core.Bool.{_&&_, _||_};
+ghost use Prim.Native.Nat.{_+_, _*_, _≤_, _<_};
+ghost use lib.ListN.{length};
+ghost use lib.Seq.{slice};
+ghost use lib.Dec.{ltb};
+ghost use Rattle.rules.specs.Lists.{all, bitOf};
+ghost use Rattle.rules.specs.Word.{wordOf};
+ghost use Rattle.rules.specs.Bytes.{wordsOf};
+ghost use Rattle.rules.specs.Table.{between, soundRun, locked};
+ghost use Rattle.words.specs.Range.{InRange};
+ghost use Rattle.theory.specs.Dealt.{isOccupied};
+ghost use Rattle.cluster.specs.Run.{follows as spec-follows};
+
+// Among the places from a on, up to b and without it.
+pub fn any_locked(table: &[u8], a: Place, b: Place) -> bool
+    requires { ⌜ 2 * b .0 ≤ length (now table) ⌝ }
+    ensures { λ t. ⌜ t ≡ locked (slice (a .0) (b .0) (wordsOf (now (table .entry)))) ⌝ }
+{
+    let end = b.0;
+    let mut i = a.0;
+    while i < end {
+        if lock(word_at(table, Place(i))) {
+            return true;
+        } else {
+            i += 1;
+        }
+    }
+    false
+}
+
+pub fn all_occupied(table: &[u8], l: Place, r: Place) -> bool
+    requires { ⌜ l .0 < r .0 ⌝ ∗ ⌜ 2 * r .0 ≤ length (now table) ⌝ }
+    ensures { λ t. ⌜ t ≡ all isOccupied (between (wordsOf (now (table .entry))) (l .0) (r .0)) ⌝ }
+{
+    let end = r.0;
+    let mut i = l.0 + 1;
+    while i < end {
+        if occupied(word_at(table, Place(i))) {
+            i += 1;
+        } else {
+            return false;
+        }
+    }
+    true
+}
+
+// A bit as a number.
+pub fn bit(b: bool) -> u32
+    ensures { λ n. ⌜ (n ≡ bitOf b) × (n < 2) ⌝ }
+{
+    if b { 1 } else { 0 }
+}
+
+// Whether the word w may stand after the word v: its remainder is low, and above that of v where v does not end its group.
+fn follows(low: u32, v: u16, w: u16) -> bool
+    ensures { λ t. ⌜ t ≡ spec-follows low (wordOf v) (wordOf w) ⌝ }
+{
+    let x = remainder(w);
+    if (x as u32) < low {
+        if change(v) { true } else { remainder(v) < x }
+    } else {
+        false
+    }
+}
+
+// One pass. Before the first place stands, as it were, a word that ends a group.
+pub fn sound_run(sh: Shape, table: &[u8], l: Place, r: Place) -> bool
+    requires { ⌜ InRange sh ⌝ ∗ ⌜ l .0 < r .0 ⌝ ∗ ⌜ 2 * r .0 ≤ length (now table) ⌝ }
+    ensures { λ t. ⌜ t ≡ soundRun sh (between (wordsOf (now (table .entry))) (l .0) (r .0)) ⌝ }
+{
+    let low = remainders(sh);
+    let end = r.0;
+    let mut last: u16 = 16384;
+    let mut virgins: u32 = 0;
+    let mut changes: u32 = 0;
+    let mut i = l.0 + 1;
+    while i < end {
+        let w = word_at(table, Place(i));
+        if follows(low, last, w) {
+            virgins += bit(virgin(w));
+            changes += bit(change(w));
+            last = w;
+            i += 1;
+        } else {
+            return false;
+        }
+    }
+    if change(last) {
+        virgins == changes
+    } else {
+        false
+    }
+}
