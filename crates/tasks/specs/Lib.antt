@@ -2,5 +2,6 @@
 pub mod Fit
 pub mod Given
 pub mod Ready
+pub mod Reading
 pub mod Taken
 pub mod Stepping

@@ -66,6 +66,16 @@ module _ {n : ℕ} {sh : Shape} {bytes : List ℕ} {t : Task} (ready : Ready n s
   unfolding rightGuard
   right-small h = let high = ready .fits .right-high (omega arith) in omega (arith, homes-high sh (ready .range))
 
+  -- the home lies between left and right
+  pub ends-apart : 3 ≤ n → t .left < t .right
+  ends-apart h =
+      let left = ready .fits .left (omega arith) in
+      let right = ready .fits .right-low (omega arith) in
+      omega arith
+
+  pub right-within : 3 ≤ n → 2 * t .right ≤ length bytes
+  right-within h = omega (arith, right-inside h)
+
   -- in phases 8 to 10 hand and goal lie between the guards, and so does the neighbour of hand
   pub hand-bounds : 8 ≤ n → n ≤ 10 → FitsHand sh t
   hand-bounds low high = ready .fits .hand (omega arith) (omega arith)

@@ -4,5 +4,6 @@ mod busy;
 mod fits;
 pub mod give;
 mod lock;
+mod read;
 mod seek;
 mod settle;
