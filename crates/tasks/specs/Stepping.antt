@@ -2,10 +2,11 @@
 -- `step-one`: the rules' step is the step on the record of the task number, stored back.
 -- `follows-left`: what a phase makes of the words it makes of every lent byte. `phase-1` to `phase-12`: the phases by number.
 -- Assumes nothing.
-use Prim.Native.Nat.{ℕ, _*_, _<_}
+use Prim.Native.Nat.{ℕ, _*_, _≤_, _<_}
 use mathlib.Core.Path.{_≡_, refl, ap, sym}
 use mathlib.Core.Bool.{Bool, true, false, cond}
 use mathlib.Core.List.{List}
+use native.Mathlib.Omega.{arith}
 use lib.ListN.{length, getD, set}
 use lib.Seq.{set-getD}
 use Rattle.rules.specs.declared.Shape.{Shape}
@@ -91,6 +92,10 @@ follows-left n before after t turn unsound b a e =
     let words : wordsOf after ≡ wordsOf before = cc in
     let bytes : after ≡ before = same-bytes after before n (a .size) (b .size) (a .small) (b .small) words in
     rw (turns, bytes)
+
+-- a number from k on that is not k is above it
+pub above : {n : ℕ} (k : ℕ) → (n ≡ k → ⊥) → k ≤ n → k < n
+above k apart h = omega arith
 
 module _ (sh : Shape) (ws : List Word) (t : Task) where
   pub phase-1 : t .phase ≡ 1 → ofPhase sh ws t ≡ phase.home sh ws t

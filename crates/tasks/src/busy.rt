@@ -1,6 +1,62 @@
-// A busy task, and its phases by number (01, Tasks and their steps): "What a step does depends on the phase".
-// The methods that take the record by value and hand the next one back stand in seek.rt and settle.rt, one for each phase.
+// A busy task, and its phases by number (01, Tasks and their steps).
+// The methods that take the record by value and hand the next one back, one for each phase, are in seek.rt, read.rt
+// and settle.rt.
+use rules::Shape;
 use rules::Task;
+use rules::Turn;
+ghost use Prim.Native.Nat.{_≤_};
+ghost use Rattle.rules.specs.Step.{ofPhase};
+ghost use Rattle.tasks.specs.Ready.{Ready};
+ghost use Rattle.tasks.specs.Taken.{Follows};
 
 // A record in phases 1 to 12.
 pub struct Busy(pub Task);
+
+impl Busy {
+    fn seek(self, sh: Shape, table: &mut [u8]) -> Turn
+        requires {
+            ⌜ Ready (self .0 .phase) sh (now table) (self .0) ⌝ ∗ ⌜ 1 ≤ self .0 .phase ⌝ ∗ ⌜ self .0 .phase ≤ 6 ⌝
+        }
+        ensures { λ turn. ⌜ Follows ofPhase sh (self .0) (now (table .entry)) turn (now (table .exit)) ⌝ }
+    {
+        let phase = self.0.phase;
+        match phase {
+            1 => self.home(sh, table),
+            2 => self.look_left(sh, table),
+            3 => self.look_right(sh, table),
+            4 => self.lock_left(sh, table),
+            5 => self.lock_right(sh, table),
+            _ => self.back_off(sh, table),
+        }
+    }
+
+    fn settle(self, sh: Shape, table: &mut [u8]) -> Turn
+        requires {
+            ⌜ Ready (self .0 .phase) sh (now table) (self .0) ⌝ ∗ ⌜ 7 ≤ self .0 .phase ⌝ ∗ ⌜ self .0 .phase ≤ 12 ⌝
+        }
+        ensures { λ turn. ⌜ Follows ofPhase sh (self .0) (now (table .entry)) turn (now (table .exit)) ⌝ }
+    {
+        let phase = self.0.phase;
+        match phase {
+            7 => self.read(sh, table),
+            8 => self.fill_hand(sh, table),
+            9 => self.move_on(sh, table),
+            10 => self.mark(sh, table),
+            11 => self.free_left(sh, table),
+            _ => self.free_right(sh, table),
+        }
+    }
+
+    pub fn act(self, sh: Shape, table: &mut [u8]) -> Turn
+        requires {
+            ⌜ Ready (self .0 .phase) sh (now table) (self .0) ⌝ ∗ ⌜ 1 ≤ self .0 .phase ⌝ ∗ ⌜ self .0 .phase ≤ 12 ⌝
+        }
+        ensures { λ turn. ⌜ Follows ofPhase sh (self .0) (now (table .entry)) turn (now (table .exit)) ⌝ }
+    {
+        let phase = self.0.phase;
+        match phase {
+            0..=6 => self.seek(sh, table),
+            7..=255 => self.settle(sh, table),
+        }
+    }
+}
