@@ -55,8 +55,8 @@ impl Busy {
     {
         let phase = self.0.phase;
         match phase {
-            0..=6 => self.seek(sh, table),
-            7..=255 => self.settle(sh, table),
+            1..=6 => self.seek(sh, table),
+            _ => self.settle(sh, table),
         }
     }
 }
