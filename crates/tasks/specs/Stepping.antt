@@ -16,14 +16,14 @@ use Rattle.rules.specs.declared.Turn.the-variants.{Next, Refused}
 use Rattle.rules.specs.declared.Refusal.the-variants.{Unsound}
 use Rattle.rules.specs.Word.{Word}
 use Rattle.rules.specs.Bytes.{wordsOf, bytesOf}
-use Rattle.rules.specs.Shape.{shapeOf, goodTable}
+use Rattle.rules.specs.Shape.{shapeOf, places, goodTable}
 use Rattle.rules.specs.Answer.{Answer, says, refuses, numberOfRefusal, Leaves, leaves}
 use Rattle.rules.specs.Give.{noTask, taskAt, goodTask}
 use Rattle.rules.specs.Phase as phase
 use Rattle.rules.specs.Phase.{Step, to, unsound}
 use Rattle.rules.specs.Step.{Stepped, steps, refused, orUnsound, ofPhase, stepOf, Lent, lentAfter, step}
 use Rattle.words.specs.Layout.{bytes-are, same-bytes}
-use Rattle.tasks.specs.Taken.{taken, takes}
+use Rattle.tasks.specs.Taken.{taken, takes, Follows}
 
 -- the lent bytes and the record, as a step leaves them
 pub record Left : Type 0 where
@@ -73,25 +73,30 @@ step-one m r bytes ts i good =
     go true (refused n) = kept (refuses n)
     go false s = kept (refuses 1)
 
--- bytes of one even length
-pub record Even (n : ℕ) (bytes : List ℕ) : Type 0 where
-  pub size : length bytes ≡ 2 * n
+-- the bytes of a table of a shape
+pub record BytesOf (sh : Shape) (bytes : List ℕ) : Type 0 where
+  pub size : length bytes ≡ 2 * places sh
   pub small : (i : ℕ) → getD bytes i 0 < 256
 
 pub follows-left :
-    (n : ℕ) (before after : List ℕ) (t : Task) (turn : Turn) (s : Step) → Even n before → Even n after →
-    taken turn (wordsOf after) ≡ takes (wordsOf before) s →
-    stepSays t turn after ≡ leftAfter before t (orUnsound s)
-follows-left n before after t turn (to u ws) b a e =
-    let turns : turn ≡ Next u = cc in
-    let words : wordsOf after ≡ ws = cc in
-    let bytes : after ≡ bytesOf ws = bytes-are after n ws (a .size) (a .small) words in
-    rw (turns, bytes)
-follows-left n before after t turn unsound b a e =
-    let turns : turn ≡ Refused Unsound = cc in
-    let words : wordsOf after ≡ wordsOf before = cc in
-    let bytes : after ≡ before = same-bytes after before n (a .size) (b .size) (a .small) (b .small) words in
-    rw (turns, bytes)
+    (sh : Shape) (t : Task) (before : List ℕ) (turn : Turn) (after : List ℕ) →
+    BytesOf sh before → BytesOf sh after → Follows ofPhase sh t before turn after →
+    stepSays t turn after ≡ leftAfter before t (orUnsound (ofPhase sh (wordsOf before) t))
+follows-left sh t before turn after b a = go (ofPhase sh (wordsOf before) t)
+  where
+    go : (s : Step) → taken turn (wordsOf after) ≡ takes (wordsOf before) s →
+        stepSays t turn after ≡ leftAfter before t (orUnsound s)
+    go (to u ws) e =
+        let turns : turn ≡ Next u = cc in
+        let words : wordsOf after ≡ ws = cc in
+        let bytes : after ≡ bytesOf ws = bytes-are after (places sh) ws (a .size) (a .small) words in
+        rw (turns, bytes)
+    go unsound e =
+        let turns : turn ≡ Refused Unsound = cc in
+        let words : wordsOf after ≡ wordsOf before = cc in
+        let bytes : after ≡ before =
+        same-bytes after before (places sh) (a .size) (b .size) (a .small) (b .small) words in
+        rw (turns, bytes)
 
 -- a number from k on that is not k is above it
 pub above : {n : ℕ} (k : ℕ) → (n ≡ k → ⊥) → k ≤ n → k < n

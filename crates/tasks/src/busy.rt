@@ -14,9 +14,7 @@ pub struct Busy(pub Task);
 
 impl Busy {
     fn seek(self, sh: Shape, table: &mut [u8]) -> Turn
-        requires {
-            ⌜ Ready (self .0 .phase) sh (now table) (self .0) ⌝ ∗ ⌜ 1 ≤ self .0 .phase ⌝ ∗ ⌜ self .0 .phase ≤ 6 ⌝
-        }
+        requires { ⌜ Ready (self .0 .phase) sh (now table) (self .0) ⌝ ∗ ⌜ 1 ≤ self .0 .phase ⌝ ∗ ⌜ self .0 .phase ≤ 6 ⌝ }
         ensures { λ turn. ⌜ Follows ofPhase sh (self .0) (now (table .entry)) turn (now (table .exit)) ⌝ }
     {
         let phase = self.0.phase;
@@ -31,9 +29,7 @@ impl Busy {
     }
 
     fn settle(self, sh: Shape, table: &mut [u8]) -> Turn
-        requires {
-            ⌜ Ready (self .0 .phase) sh (now table) (self .0) ⌝ ∗ ⌜ 7 ≤ self .0 .phase ⌝ ∗ ⌜ self .0 .phase ≤ 12 ⌝
-        }
+        requires { ⌜ Ready (self .0 .phase) sh (now table) (self .0) ⌝ ∗ ⌜ 7 ≤ self .0 .phase ⌝ ∗ ⌜ self .0 .phase ≤ 12 ⌝ }
         ensures { λ turn. ⌜ Follows ofPhase sh (self .0) (now (table .entry)) turn (now (table .exit)) ⌝ }
     {
         let phase = self.0.phase;
@@ -48,9 +44,7 @@ impl Busy {
     }
 
     pub fn act(self, sh: Shape, table: &mut [u8]) -> Turn
-        requires {
-            ⌜ Ready (self .0 .phase) sh (now table) (self .0) ⌝ ∗ ⌜ 1 ≤ self .0 .phase ⌝ ∗ ⌜ self .0 .phase ≤ 12 ⌝
-        }
+        requires { ⌜ Ready (self .0 .phase) sh (now table) (self .0) ⌝ ∗ ⌜ 1 ≤ self .0 .phase ⌝ ∗ ⌜ self .0 .phase ≤ 12 ⌝ }
         ensures { λ turn. ⌜ Follows ofPhase sh (self .0) (now (table .entry)) turn (now (table .exit)) ⌝ }
     {
         let phase = self.0.phase;

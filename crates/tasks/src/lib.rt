@@ -7,3 +7,4 @@ mod lock;
 mod read;
 mod seek;
 mod settle;
+pub mod step;

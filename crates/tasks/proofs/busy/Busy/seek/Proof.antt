@@ -65,7 +65,7 @@ returns-6 c =
     let start = c .before .before .before .before .before .before in
     let others = c .before .before .before .before .match .rest in
     let low : 6 ≤ start .args .self .0 .phase =
-        above 5 (others .1) (above 4 (others .0 .1) (above 3 (others .0 .0 .1) (above 2 (others .0 .0 .0 .1) (above 1 (others .0 .0 .0 .0 .1) (start .pre .1 .0))))) in
+    above 5 (others .1) (above 4 (others .0 .1) (above 3 (others .0 .0 .1) (above 2 (others .0 .0 .0 .1) (above 1 (others .0 .0 .0 .0 .1) (start .pre .1 .0))))) in
     c .before .before .back-off .ensures ∙ ap (takes _) (sym (phase-6 _ _ _ (le-antisymm (start .pre .1 .1) low)))
 
 pub seek-spec : {M : Type 1} → statement M

@@ -65,7 +65,7 @@ returns-6 c =
     let start = c .before .before .before .before .before .before in
     let others = c .before .before .before .before .match .rest in
     let low : 12 ≤ start .args .self .0 .phase =
-        above 11 (others .1) (above 10 (others .0 .1) (above 9 (others .0 .0 .1) (above 8 (others .0 .0 .0 .1) (above 7 (others .0 .0 .0 .0 .1) (start .pre .1 .0))))) in
+    above 11 (others .1) (above 10 (others .0 .1) (above 9 (others .0 .0 .1) (above 8 (others .0 .0 .0 .1) (above 7 (others .0 .0 .0 .0 .1) (start .pre .1 .0))))) in
     c .before .before .free-right .ensures ∙ ap (takes _) (sym (phase-12 _ _ _ (le-antisymm (start .pre .1 .1) low)))
 
 pub settle-spec : {M : Type 1} → statement M
