@@ -1,4 +1,4 @@
--- The homes of a run's groups, found one by one from the left: `homesFrom`, its steps, and `due-home`, the home that is due.
+-- The homes of a run's groups, found one by one from the left: `homesFrom`, its steps, and `due-home`, the next one.
 -- `Housed`, `Owed`: as many homes as groups, so that none is missing; a sound run has them (`sound-housed`).
 -- Assumes nothing.
 use Prim.Native.Nat.{ℕ, zero, suc, _+_, _-_, _*_, _≤_, _<_}
@@ -13,12 +13,11 @@ use lib.Seq.{slice}
 use lib.Dec.{eqb}
 use borrow.Author.Tests.{eqb-true}
 use Rattle.rules.specs.declared.Shape.{Shape}
-use Rattle.rules.specs.Lists.{bitOf, count, all}
+use Rattle.rules.specs.Lists.{bitOf, count}
 use Rattle.rules.specs.Word.{Word, wordOf}
 use Rattle.rules.specs.Bytes.{wordsOf}
-use Rattle.rules.specs.Shape.{remainders}
-use Rattle.rules.specs.Table.{at, endsInChange, rising, soundRun, virginPlaces, front, due, deal}
-use Rattle.theory.specs.Dealt.{isChange, isVirgin, isLow, and-left, and-right, ends-counted, entry-path}
+use Rattle.rules.specs.Table.{at, endsInChange, soundRun, virginPlaces, front, due, deal}
+use Rattle.theory.specs.Dealt.{isChange, isVirgin, and-left, and-right, ends-counted, entry-path}
 use Rattle.theory.specs.RunLaws.{virgin-count}
 use Rattle.cluster.specs.Run.{run-step, run-end}
 
@@ -140,7 +139,8 @@ module _ (bs : List ℕ) (i r v w : ℕ) (lt : i < r) (within : 2 * r ≤ length
 
         pub next-entry :
             deal (homesFrom (wordsOf bs) r v) (slice i r (wordsOf bs))
-            ≡ record { home = h; remainder = y } ∷ deal (homesFrom (wordsOf bs) r (h + x)) (slice (i + 1) r (wordsOf bs))
+            ≡ record { home = h; remainder = y }
+            ∷ deal (homesFrom (wordsOf bs) r (h + x)) (slice (i + 1) r (wordsOf bs))
         unfolding deal
         next-entry =
             rw

@@ -3,7 +3,7 @@
 -- Assumes nothing.
 use Prim.Native.Nat.{ℕ, suc, _+_, _*_, _≤_, _<_}
 use mathlib.Core.Path.{_≡_, refl, sym, _∙_, ap}
-use mathlib.Core.Bool.{Bool, true, false, not, cond, _&&_, _||_, or-false, and-true, or-assoc, and-assoc, or-comm, and-comm}
+use mathlib.Core.Bool.{true, false, not, cond, _&&_, _||_, or-false, and-true, or-assoc, and-assoc, or-comm, and-comm}
 use mathlib.Core.List.{List, [], _∷_}
 use native.Mathlib.Numerals.{add-one}
 use native.Mathlib.Nat.{zero-add, add-zero, add-assoc}
@@ -27,6 +27,9 @@ use Rattle.cluster.specs.declared.read.Seen.{Seen}
 unfoldable pub readOf : Entry → List Entry → Read
 readOf e es = record { held = holds e es; smaller = smaller e es; mark = markOf e es }
 
+abbrev pub entry : ℕ → ℕ → Entry
+entry home remainder = record { home = home; remainder = remainder }
+
 -- the entry f is seen, where e is looked for
 unfoldable pub look : Entry → Entry → Seen → Seen
 look e f s =
@@ -37,7 +40,7 @@ look e f s =
       largest = (not (sameHome e f) || precedes f e) && s .largest;
     }
 
--- ---- where f has an earlier home, the same with a smaller, equal or larger remainder, or a later one
+-- ---- where f has an earlier home, a later one, or the same with a smaller, a larger or an equal remainder
 module _ (e f : Entry) (s : Seen) where
   pub look-before :
       f .home < e .home →
@@ -46,56 +49,60 @@ module _ (e f : Entry) (s : Seen) where
   unfolding look sameEntry sameHome precedes
   look-before h = rw (lt-ltb (f .home) (e .home) h, ne-eqb (e .home) (f .home) (λ q. omega arith))
 
-  pub look-below :
-      f .home ≡ e .home → f .remainder < e .remainder →
-      look e f s ≡ record { held = s .held; smaller = s .smaller + 1; grouped = true; largest = s .largest }
+  pub look-beyond : e .home < f .home → look e f s ≡ s
   unfolding look sameEntry sameHome precedes
-  look-below q l =
+  look-beyond h =
       rw (
         le-ltb (f .home) (e .home) (omega arith),
-        eq-eqb (f .home) (e .home) q,
-        eq-eqb (e .home) (f .home) (sym q),
-        lt-ltb (f .remainder) (e .remainder) l,
-        ne-eqb (e .remainder) (f .remainder) (λ z. omega arith),
-      )
-
-  pub look-equal :
-      f .home ≡ e .home → e .remainder ≡ f .remainder →
-      look e f s ≡ record { held = true; smaller = s .smaller; grouped = true; largest = false }
-  unfolding look sameEntry sameHome precedes
-  look-equal q z =
-      rw (
-        le-ltb (f .home) (e .home) (omega arith),
-        eq-eqb (f .home) (e .home) q,
-        eq-eqb (e .home) (f .home) (sym q),
-        le-ltb (f .remainder) (e .remainder) (omega arith),
-        eq-eqb (e .remainder) (f .remainder) z,
+        ne-eqb (f .home) (e .home) (λ q. omega arith),
+        ne-eqb (e .home) (f .home) (λ q. omega arith),
         add-zero (s .smaller),
       )
 
-  pub look-above :
-      f .home ≡ e .home → e .remainder ≤ f .remainder → (e .remainder ≡ f .remainder → ⊥) →
-      look e f s ≡ record { held = s .held; smaller = s .smaller; grouped = true; largest = false }
-  unfolding look sameEntry sameHome precedes
-  look-above q l n =
-      rw (
-        le-ltb (f .home) (e .home) (omega arith),
-        eq-eqb (f .home) (e .home) q,
-        eq-eqb (e .home) (f .home) (sym q),
-        le-ltb (f .remainder) (e .remainder) l,
-        ne-eqb (e .remainder) (f .remainder) n,
-        add-zero (s .smaller),
-      )
+  module _ (above : e .home ≤ f .home) (below : f .home ≤ e .home) where
+    same : (f .home ≡ e .home) × (e .home ≡ f .home)
+    same = (omega arith, omega arith)
 
-  pub look-beyond : e .home ≤ f .home → (f .home ≡ e .home → ⊥) → look e f s ≡ s
-  unfolding look sameEntry sameHome precedes
-  look-beyond l n =
-      rw (
-        le-ltb (f .home) (e .home) l,
-        ne-eqb (f .home) (e .home) n,
-        ne-eqb (e .home) (f .home) (λ q. n (sym q)),
-        add-zero (s .smaller),
-      )
+    pub look-below :
+        f .remainder < e .remainder →
+        look e f s ≡ record { held = s .held; smaller = s .smaller + 1; grouped = true; largest = s .largest }
+    unfolding look sameEntry sameHome precedes
+    look-below h =
+        rw (
+          le-ltb (f .home) (e .home) above,
+          eq-eqb (f .home) (e .home) (same .0),
+          eq-eqb (e .home) (f .home) (same .1),
+          lt-ltb (f .remainder) (e .remainder) h,
+          ne-eqb (e .remainder) (f .remainder) (λ q. omega arith),
+        )
+
+    pub look-above :
+        e .remainder < f .remainder →
+        look e f s ≡ record { held = s .held; smaller = s .smaller; grouped = true; largest = false }
+    unfolding look sameEntry sameHome precedes
+    look-above h =
+        rw (
+          le-ltb (f .home) (e .home) above,
+          eq-eqb (f .home) (e .home) (same .0),
+          eq-eqb (e .home) (f .home) (same .1),
+          le-ltb (f .remainder) (e .remainder) (omega arith),
+          ne-eqb (e .remainder) (f .remainder) (λ q. omega arith),
+          add-zero (s .smaller),
+        )
+
+    pub look-equal :
+        e .remainder ≤ f .remainder → f .remainder ≤ e .remainder →
+        look e f s ≡ record { held = true; smaller = s .smaller; grouped = true; largest = false }
+    unfolding look sameEntry sameHome precedes
+    look-equal h k =
+        rw (
+          le-ltb (f .home) (e .home) above,
+          eq-eqb (f .home) (e .home) (same .0),
+          eq-eqb (e .home) (f .home) (same .1),
+          le-ltb (f .remainder) (e .remainder) h,
+          eq-eqb (e .remainder) (f .remainder) (omega arith),
+          add-zero (s .smaller),
+        )
 
 -- one key more is at most one smaller key more
 pub look-counts : (e f : Entry) (s : Seen) → look e f s .smaller ≤ s .smaller + 1
@@ -147,28 +154,25 @@ unfolding after holds smaller any all count
 after-end e s = rw (or-false (s .held), add-zero (s .smaller), or-false (s .grouped), and-true (s .largest))
 
 -- ---- the read of a run, in one pass
--- s was seen, and the homes from v on and the words from i on are to come; a is what the whole read gives
+-- what it gives where s was seen, and the homes from v on and the words from i on are to come
+abbrev pub upTo : Entry → List ℕ → ℕ → Seen → ℕ → ℕ → Read
+upTo e bs r s v i = after e s (deal (homesFrom (wordsOf bs) r v) (slice i r (wordsOf bs)))
+
+-- the state of the pass: a is what the whole read gives
 pub record Reading (e : Entry) (bs : List ℕ) (r : ℕ) (a : Read) (s : Seen) (v i : ℕ) : Type 0 where
   pub counted : s .smaller ≤ i
   pub owed : Owed (homesFrom (wordsOf bs) r v) (slice i r (wordsOf bs))
-  pub whole : after e s (deal (homesFrom (wordsOf bs) r v) (slice i r (wordsOf bs))) ≡ a
+  pub whole : upTo e bs r s v i ≡ a
 
 module _ (e : Entry) (bs : List ℕ) (r : ℕ) where
   -- what the whole read gives, before the first place after l
-  pub read-whole :
-      (l : ℕ) →
-      after e unseen (deal (homesFrom (wordsOf bs) r (l + 1)) (slice (l + 1) r (wordsOf bs)))
-      ≡ readOf e (entriesBetween (wordsOf bs) l r)
+  pub read-whole : (l : ℕ) → upTo e bs r unseen (l + 1) (l + 1) ≡ readOf e (entriesBetween (wordsOf bs) l r)
   unfolding entriesBetween
   read-whole l = rw add-one (after-start e _)
 
   pub reading-start :
       (l : ℕ) → Housed (between (wordsOf bs) l r) →
-      Reading e bs r
-      (after e unseen (deal (homesFrom (wordsOf bs) r (l + 1)) (slice (l + 1) r (wordsOf bs))))
-      unseen
-      (l + 1)
-      (l + 1)
+      Reading e bs r (upTo e bs r unseen (l + 1) (l + 1)) unseen (l + 1) (l + 1)
   reading-start l h =
       record {
         counted = omega arith;
@@ -180,14 +184,14 @@ module _ (e : Entry) (bs : List ℕ) (r : ℕ) where
       (a : Read) (s : Seen) (v i : ℕ) → Reading e bs r a s v i → i < r → 2 * r ≤ length bs →
       (w : ℕ) → wordOf w ≡ at (wordsOf bs) i →
       (h x y : ℕ) → h ≡ firstOf r (homesFrom (wordsOf bs) r v) → x ≡ bitOf (wordOf w .change) →
-      y ≡ wordOf w .remainder → (t : Seen) → t ≡ look e (record { home = h; remainder = y }) s →
+      y ≡ wordOf w .remainder → (t : Seen) → t ≡ look e (entry h y) s →
       Reading e bs r a t (h + x) (i + 1)
   reading-step a s v i g lt within w word h x y home-is bit-is remainder-is t seen =
       record {
-        counted = omega (arith, look-counts e (record { home = h; remainder = y }) s, ap (λ (u : Seen). u .smaller) seen);
+        counted = omega (arith, look-counts e (entry h y) s, ap (λ (u : Seen). u .smaller) seen);
         owed = still-owed bs i r v w lt within word (g .owed) h x y home-is bit-is remainder-is;
         whole =
-            rw seen (after-step e (record { home = h; remainder = y }) s _)
+            rw seen (after-step e (entry h y) s _)
             ∙ ap (after e s) (sym (next-entry bs i r v w lt within word (g .owed) h x y home-is bit-is remainder-is))
             ∙ g .whole;
       }

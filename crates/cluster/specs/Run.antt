@@ -1,8 +1,8 @@
--- A run of places taken place by place: `run-step`, `run-end`; the steps of the scans for a lock and for an empty place;
+-- A run taken place by place: `run-step`, `run-end`; the steps of the scans for a lock and for an empty place;
 -- and soundness in one pass, `passes`, which `passes-sound` says is the rule's.
 -- Assumes nothing.
-use Prim.Native.Nat.{ℕ, suc, _+_, _*_, _/_, _≤_, _<_}
-use mathlib.Core.Path.{_≡_, refl, sym, _∙_, ap}
+use Prim.Native.Nat.{ℕ, _+_, _*_, _≤_, _<_}
+use mathlib.Core.Path.{_≡_, refl, _∙_}
 use mathlib.Core.Bool.{Bool, true, false, _&&_, _||_, and-true, and-comm}
 use mathlib.Core.List.{List, [], _∷_}
 use native.Mathlib.Numerals.{add-one}
@@ -35,7 +35,8 @@ run-after bs l r = rw add-one
 
 -- ---- a lock bit, an empty place
 module _ (bs : List ℕ) (i r : ℕ) (h : i < r) (within : 2 * r ≤ length bs) where
-  pub lock-passed : at (wordsOf bs) i .lock ≡ false → locked (slice (i + 1) r (wordsOf bs)) ≡ locked (slice i r (wordsOf bs))
+  pub lock-passed :
+      at (wordsOf bs) i .lock ≡ false → locked (slice (i + 1) r (wordsOf bs)) ≡ locked (slice i r (wordsOf bs))
   unfolding locked any
   lock-passed e = rw (run-step bs i r h within, e)
 
@@ -120,12 +121,11 @@ passes-sound sh v ws e =
     ∙ rw
     (zero-add (count isVirgin ws), zero-add (count isChange ws), after-end v ws e .0, after-end v ws e .1)
 
--- before the first place: a word with nothing but change
 pub sound-start :
-    (sh : Shape) (bs : List ℕ) (l r d : ℕ) → d ≡ remainders sh →
-    passes d (wordOf 16384) 0 0 (slice (l + 1) r (wordsOf bs)) ≡ soundRun sh (between (wordsOf bs) l r)
-unfolding wordOf
-sound-start sh bs l r d e = rw (e, run-after bs l r) (passes-sound sh (wordOf 16384) (between (wordsOf bs) l r) refl)
+    (sh : Shape) (bs : List ℕ) (l r d v : ℕ) → d ≡ remainders sh → wordOf v .change ≡ true →
+    passes d (wordOf v) 0 0 (slice (l + 1) r (wordsOf bs)) ≡ soundRun sh (between (wordsOf bs) l r)
+sound-start sh bs l r d v e ends =
+    rw (e, run-after bs l r) (passes-sound sh (wordOf v) (between (wordsOf bs) l r) ends)
 
 -- a word that may stand after the last is passed, another makes the run unsound
 module _ (bs : List ℕ) (i r : ℕ) (h : i < r) (within : 2 * r ≤ length bs)

@@ -1,17 +1,16 @@
--- The gaps on the two sides of a place, found by going from place to place: a step, the stop and the end of each search.
+-- The gaps on the two sides of a place, found from place to place: a step, the stop and the end of each search.
 -- Assumes nothing.
-use Prim.Native.Nat.{ℕ, zero, suc, _+_, _-_, _*_, _/_, _≤_, _<_}
-use mathlib.Core.Path.{_≡_, refl, sym, _∙_, ap}
+use Prim.Native.Nat.{ℕ, zero, suc, _+_, _-_, _/_, _≤_, _<_}
+use mathlib.Core.Path.{_≡_, refl}
 use mathlib.Core.Bool.{Bool, true, false}
 use mathlib.Core.List.{List, [], _∷_}
 use native.Mathlib.Numerals.{add-one}
 use native.Mathlib.Nat.{add-zero}
 use native.Mathlib.Omega.{arith}
-use lib.ListN.{length, getD, drop, drop-of-length-le}
+use lib.ListN.{length, getD, drop-of-length-le}
 use lib.Seq.{drop-cons}
-use Rattle.rules.specs.Word.{Word}
 use Rattle.rules.specs.Bytes.{wordsOf}
-use Rattle.rules.specs.Table.{occupied, leftGap, lead, rightGap}
+use Rattle.rules.specs.Table.{leftGap, lead, rightGap}
 
 -- the number of a table's words: a last byte without its fellow is none
 pub words-count : (bs : List ℕ) → length (wordsOf bs) ≡ length bs / 2

@@ -1,4 +1,5 @@
 // A run of places seen as one: is any locked, are all occupied, is it a sound cluster (01, Shape and layout).
+use crate::bit::bit_of;
 use rules::Shape;
 use words::bytes::word_at;
 use words::place::Place;
@@ -8,19 +9,18 @@ use words::word::lock;
 use words::word::occupied;
 use words::word::remainder;
 use words::word::virgin;
+use words::word::with_change;
 ghost use mathlib.Core.Path.{_≡_};
-ghost use mathlib.Core.Bool.{_&&_, _||_};
 ghost use Prim.Native.Nat.{_+_, _*_, _≤_, _<_};
 ghost use lib.ListN.{length};
 ghost use lib.Seq.{slice};
-ghost use lib.Dec.{ltb};
-ghost use Rattle.rules.specs.Lists.{all, bitOf};
+ghost use Rattle.rules.specs.Lists.{all};
 ghost use Rattle.rules.specs.Word.{wordOf};
 ghost use Rattle.rules.specs.Bytes.{wordsOf};
 ghost use Rattle.rules.specs.Table.{between, soundRun, locked};
 ghost use Rattle.words.specs.Range.{InRange};
 ghost use Rattle.theory.specs.Dealt.{isOccupied};
-ghost use Rattle.cluster.specs.Run.{follows as spec-follows};
+ghost use Rattle.cluster.specs.Run as spec;
 
 // Among the places from a on, up to b and without it.
 pub fn any_locked(table: &[u8], a: Place, b: Place) -> bool
@@ -55,16 +55,9 @@ pub fn all_occupied(table: &[u8], l: Place, r: Place) -> bool
     true
 }
 
-// A bit as a number.
-pub fn bit(b: bool) -> u32
-    ensures { λ n. ⌜ (n ≡ bitOf b) × (n < 2) ⌝ }
-{
-    if b { 1 } else { 0 }
-}
-
-// Whether the word w may stand after the word v: its remainder is low, and above that of v where v does not end its group.
+// Whether the word w may stand after the word v: its remainder is low, and above v's unless v ends its group.
 fn follows(low: u32, v: u16, w: u16) -> bool
-    ensures { λ t. ⌜ t ≡ spec-follows low (wordOf v) (wordOf w) ⌝ }
+    ensures { λ t. ⌜ t ≡ spec.follows low (wordOf v) (wordOf w) ⌝ }
 {
     let x = remainder(w);
     if (x as u32) < low {
@@ -81,15 +74,15 @@ pub fn sound_run(sh: Shape, table: &[u8], l: Place, r: Place) -> bool
 {
     let low = remainders(sh);
     let end = r.0;
-    let mut last: u16 = 16384;
+    let mut last = with_change(0, true);
     let mut virgins: u32 = 0;
     let mut changes: u32 = 0;
     let mut i = l.0 + 1;
     while i < end {
         let w = word_at(table, Place(i));
         if follows(low, last, w) {
-            virgins += bit(virgin(w));
-            changes += bit(change(w));
+            virgins += bit_of(virgin(w));
+            changes += bit_of(change(w));
             last = w;
             i += 1;
         } else {

@@ -1,7 +1,7 @@
 -- `left_gap` meets its contract. The invariant: the gap of the place that is reached is that of the place given.
 -- Assumes nothing.
 use Prim.Native.Nat.{_≤_}
-use mathlib.Core.Path.{_≡_, refl, sym, _∙_, ap}
+use mathlib.Core.Path.{_≡_, refl, sym, _∙_}
 use borrow.Author.Needs.{needs}
 use native.Mathlib.Omega.{arith}
 use denote.Ref.{now}
@@ -31,26 +31,23 @@ loop-less c = omega arith
 
 loop-again : tie.Need-loop-again Inv-loop μ-loop
 loop-again c =
-    let turn = c .before .before in
-    let head = turn .before in
-    let os = occupied (wordsOf (now (head .before .before .args .table))) in (
-      omega arith,
-      left-step os (head .loop .i) (turn .loop-test .taken) (sym (c .before .taken .ensures) ∙ c .if1 .taken)
-          ∙ head .loop .inv .1,
-    )
+    let head = c .before .before .before in
+    let os = occupied (wordsOf (now (head .before .before .args .table))) in
+    let seen = sym (c .before .taken .ensures) ∙ c .if1 .taken in
+    (omega arith, left-step os (head .loop .i) (omega arith) seen ∙ head .loop .inv .1)
 
 returns : tie.Need-returns Inv-loop μ-loop
 returns c =
     let head = c .before .before .before in
     let os = occupied (wordsOf (now (head .before .before .args .table))) in
-    sym (left-stop os (head .loop .i) (c .before .before .loop-test .taken) (sym (c .before .taken .ensures) ∙ c .if1 .left))
-    ∙ head .loop .inv .1
+    let seen = sym (c .before .taken .ensures) ∙ c .if1 .left in
+    sym (left-stop os (head .loop .i) (omega arith) seen) ∙ head .loop .inv .1
 
 returns-2 : tie.Need-returns-2 Inv-loop μ-loop
 returns-2 c =
     let head = c .before in
     let os = occupied (wordsOf (now (head .before .before .args .table))) in
-    sym (left-end os (head .loop .i) (c .loop-test .left)) ∙ head .loop .inv .1
+    sym (left-end os (head .loop .i) (omega arith)) ∙ head .loop .inv .1
 
 pub left-gap-spec : {M : Type 1} → statement M
 left-gap-spec =

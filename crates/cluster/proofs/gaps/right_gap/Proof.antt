@@ -42,16 +42,15 @@ loop-again : tie.Need-loop-again Inv-loop μ-loop
 loop-again c =
     let head = c .before .before .before in
     let bs = now (head .before .before .args .table) in
-    right-step (occupied (wordsOf bs)) (head .loop .i) (omega (arith, size bs)) (sym (c .before .taken .ensures) ∙ c .if1 .taken)
-    ∙ head .loop .inv
+    let seen = sym (c .before .taken .ensures) ∙ c .if1 .taken in
+    right-step (occupied (wordsOf bs)) (head .loop .i) (omega (arith, size bs)) seen ∙ head .loop .inv
 
 returns : tie.Need-returns Inv-loop μ-loop
 returns c =
     let head = c .before .before .before in
     let bs = now (head .before .before .args .table) in
-    sym
-    (right-stop (occupied (wordsOf bs)) (head .loop .i) (omega (arith, size bs)) (sym (c .before .taken .ensures) ∙ c .if1 .left))
-    ∙ head .loop .inv
+    let seen = sym (c .before .taken .ensures) ∙ c .if1 .left in
+    sym (right-stop (occupied (wordsOf bs)) (head .loop .i) (omega (arith, size bs)) seen) ∙ head .loop .inv
 
 returns-2 : tie.Need-returns-2 Inv-loop μ-loop
 returns-2 c =

@@ -1,4 +1,4 @@
--- `next_virgin` meets its contract. The invariant: the homes from the place reached on are those from the place given on.
+-- `next_virgin` meets its contract. The invariant: the homes from the place reached on are those from the first on.
 -- Assumes nothing.
 use Prim.Native.Nat.{_-_}
 use mathlib.Core.Path.{_≡_, refl, sym, _∙_, ap}

@@ -1,27 +1,22 @@
--- `read_between` meets its contract. The invariant is `Reading`: what was seen, with what is to come, makes the whole read.
+-- `read_between` meets its contract. The invariant, `Reading`: what was seen and what is to come make the whole read.
 -- Assumes nothing.
-use Prim.Native.Nat.{_-_, _<_}
-use mathlib.Core.Path.{_≡_, refl, sym, _∙_, ap}
+use Prim.Native.Nat.{_-_}
+use mathlib.Core.Path.{_∙_, ap}
 use borrow.Author.Needs.{needs}
 use native.Mathlib.Omega.{arith}
 use denote.Ref.{now}
-use lib.Seq.{slice}
 use Rattle.rules.specs.Lists.{bitOf}
-use Rattle.rules.specs.Bytes.{wordsOf}
-use Rattle.rules.specs.Entry.{Entry}
-use Rattle.rules.specs.Table.{deal}
-use Rattle.cluster.specs.Homes.{homesFrom, home-inside}
-use Rattle.cluster.specs.Read.{after, Reading, read-whole, reading-start, reading-step, reading-end}
+use Rattle.cluster.specs.Homes.{home-inside}
+use Rattle.cluster.specs.Read.{entry, upTo, Reading, read-whole, reading-start, reading-step, reading-end}
 use Rattle.cluster.proofs.read.read_between.Statement.{statement}
 use Rattle.cluster.proofs.read.read_between.Tie as tie
 
 abbrev Inv-loop : tie.InvT-loop
-Inv-loop table r home remainder end seen₀ v₀ i₀ seen v i =
-    let e : Entry = record { home = home .0; remainder = remainder } in
-    Reading e table end (after e seen₀ (deal (homesFrom (wordsOf table) end v₀) (slice i₀ end (wordsOf table)))) seen v i
+Inv-loop table r home x end seen₀ v₀ i₀ seen v i =
+    Reading (entry (home .0) x) table end (upTo (entry (home .0) x) table end seen₀ v₀ i₀) seen v i
 
 abbrev μ-loop : tie.MeasureT-loop
-μ-loop table r home remainder end seen₀ v₀ i₀ seen v i = end - i
+μ-loop table r home x end seen₀ v₀ i₀ seen v i = end - i
 
 add-v : tie.Need-add-v Inv-loop μ-loop
 add-v c = omega arith
@@ -49,8 +44,8 @@ look-requires c κs = omega arith
 change-requires : tie.Need-change-requires Inv-loop μ-loop
 change-requires c κs = search needs
 
-bit-requires : tie.Need-bit-requires Inv-loop μ-loop
-bit-requires c κs = search needs
+bit-of-requires : tie.Need-bit-of-requires Inv-loop μ-loop
+bit-of-requires c κs = search needs
 
 add-v-2 : tie.Need-add-v-2 Inv-loop μ-loop
 add-v-2 c =
@@ -103,10 +98,10 @@ loop-again c =
     (found .before .word-at .result)
     (found .before .word-at .ensures)
     (found .next-virgin .result .0)
-    (c .before .bit .result)
+    (c .before .bit-of .result)
     (looked .before .remainder .result)
     (found .next-virgin .ensures)
-    (c .before .bit .ensures .0 ∙ ap bitOf (flagged .change .ensures))
+    (c .before .bit-of .ensures .0 ∙ ap bitOf (flagged .change .ensures))
     (looked .before .remainder .ensures)
     (looked .look .result)
     (looked .look .ensures)
@@ -120,9 +115,10 @@ returns c =
     let start = head .before .before .before .before in
     let bs = now (start .args .table) in
     let r = start .args .r .0 in
+    let reached = head .loop in
     rw
     (c .mark-of .ensures)
-    (reading-end _ bs r _ (head .loop .seen) (head .loop .v) (head .loop .i) (head .loop .inv) (c .before .loop-test .left)
+    (reading-end _ bs r _ (reached .seen) (reached .v) (reached .i) (reached .inv) (c .before .loop-test .left)
     ∙ read-whole _ bs r (start .args .l .0))
 
 pub read-between-spec : {M : Type 1} → statement M
@@ -139,7 +135,7 @@ read-between-spec =
     remainder-requires
     look-requires
     change-requires
-    bit-requires
+    bit-of-requires
     add-v-2
     add-i-2
     loop-less

@@ -69,7 +69,8 @@ returns-2 : tie.Need-returns-2 Inv-loop μ-loop
 returns-2 c =
     let head = c .before in
     let start = head .before .before in
-    sym (lock-end (now (start .args .table)) (head .loop .i) (start .args .b .0) (c .loop-test .left)) ∙ head .loop .inv
+    sym (lock-end (now (start .args .table)) (head .loop .i) (start .args .b .0) (c .loop-test .left))
+    ∙ head .loop .inv
 
 pub any-locked-spec : {M : Type 1} → statement M
 any-locked-spec =

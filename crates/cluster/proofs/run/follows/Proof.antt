@@ -2,7 +2,6 @@
 -- Assumes nothing.
 use borrow.Author.Needs.{needs}
 use borrow.Author.Tests.{lt-ltb, le-ltb}
-use mathlib.Core.Path.{refl, sym, _∙_}
 use Rattle.cluster.specs.Run.{follows}
 use Rattle.cluster.proofs.run.follows.Statement.{statement}
 use Rattle.cluster.proofs.run.follows.Tie as tie
@@ -23,7 +22,12 @@ returns : tie.Need-returns
 unfolding follows
 returns c =
     let first = c .before .before in
-    rw (← first .before .remainder .ensures, lt-ltb _ _ (first .if1 .taken), ← c .before .change .ensures, c .if2 .taken)
+    rw (
+      ← first .before .remainder .ensures,
+      lt-ltb _ _ (first .if1 .taken),
+      ← c .before .change .ensures,
+      c .if2 .taken,
+    )
 
 returns-2 : tie.Need-returns-2
 unfolding follows

@@ -1,4 +1,4 @@
--- `sound_run` meets its contract. The invariant: what is left passes, after the last word and with the bits counted so far,
+-- `sound_run` meets its contract. The invariant: what is left passes, after the last word and with the bits counted,
 -- if the whole run does after a word that ends a group.
 -- Assumes nothing.
 use Prim.Native.Nat.{_-_, _≤_}
@@ -13,6 +13,7 @@ use Rattle.rules.specs.Lists.{bitOf}
 use Rattle.rules.specs.Word.{wordOf}
 use Rattle.rules.specs.Bytes.{wordsOf}
 use Rattle.rules.specs.Table.{between, soundRun}
+use Rattle.theory.specs.Dealt.{isChange}
 use Rattle.cluster.specs.Run.{passes, sound-start, word-passed, word-refused, passes-end}
 use Rattle.cluster.proofs.run.sound_run.Statement.{statement}
 use Rattle.cluster.proofs.run.sound_run.Tie as tie
@@ -30,6 +31,9 @@ abbrev μ-loop : tie.MeasureT-loop
 remainders-requires : tie.Need-remainders-requires Inv-loop μ-loop
 remainders-requires c κs = c .before .pre .0
 
+with-change-requires : tie.Need-with-change-requires Inv-loop μ-loop
+with-change-requires c κs = search needs
+
 add-i : tie.Need-add-i Inv-loop μ-loop
 add-i c = omega arith
 
@@ -45,8 +49,8 @@ follows-requires c κs = search needs
 virgin-requires : tie.Need-virgin-requires Inv-loop μ-loop
 virgin-requires c κs = search needs
 
-bit-requires : tie.Need-bit-requires Inv-loop μ-loop
-bit-requires c κs = search needs
+bit-of-requires : tie.Need-bit-of-requires Inv-loop μ-loop
+bit-of-requires c κs = search needs
 
 add-virgins : tie.Need-add-virgins Inv-loop μ-loop
 add-virgins c = omega arith
@@ -54,8 +58,8 @@ add-virgins c = omega arith
 change-requires : tie.Need-change-requires Inv-loop μ-loop
 change-requires c κs = search needs
 
-bit-requires-2 : tie.Need-bit-requires-2 Inv-loop μ-loop
-bit-requires-2 c κs = search needs
+bit-of-requires-2 : tie.Need-bit-of-requires-2 Inv-loop μ-loop
+bit-of-requires-2 c κs = search needs
 
 add-changes : tie.Need-add-changes Inv-loop μ-loop
 add-changes c = omega arith
@@ -72,7 +76,7 @@ loop-again c =
     let tested = marked .before .before in
     let turn = tested .before .before in
     let head = turn .before in
-    let start = head .before .before .before .before in (
+    let start = head .before .before .before .before .before in (
       omega arith,
       omega arith,
       word-passed
@@ -89,8 +93,8 @@ loop-again c =
           (tested .before .word-at .ensures)
           _
           _
-          (c .before .before .bit .ensures .0 ∙ ap bitOf (marked .virgin .ensures))
-          (c .bit2 .ensures .0 ∙ ap bitOf (c .before .change .ensures))
+          (c .before .before .bit-of .ensures .0 ∙ ap bitOf (marked .virgin .ensures))
+          (c .bit-of2 .ensures .0 ∙ ap bitOf (c .before .change .ensures))
           (sym (tested .follows .ensures) ∙ marked .before .if1 .taken)
           ∙ head .loop .inv .2,
     )
@@ -98,16 +102,16 @@ loop-again c =
 -- so at each turn's head the whole run is sound if what is left passes
 whole :
     (head : tie.At-loop Inv-loop μ-loop) →
-    let start = head .before .before .before .before in
+    let start = head .before .before .before .before .before in
     passes
-    (head .before .before .remainders .result)
+    (head .before .before .before .remainders .result)
     (wordOf (head .loop .last))
     (head .loop .virgins)
     (head .loop .changes)
     (slice (head .loop .i) (start .args .r .0) (wordsOf (now (start .args .table))))
     ≡ soundRun (start .args .sh) (between (wordsOf (now (start .args .table))) (start .args .l .0) (start .args .r .0))
 whole head =
-    let start = head .before .before .before .before in
+    let start = head .before .before .before .before .before in
     head .loop .inv .2
     ∙ sound-start
     (start .args .sh)
@@ -115,19 +119,21 @@ whole head =
     (start .args .l .0)
     (start .args .r .0)
     _
-    (head .before .before .remainders .ensures)
+    _
+    (head .before .before .before .remainders .ensures)
+    (ap isChange (head .before .before .with-change .ensures))
 
 -- and at the end it is if the last word ends a group and the bits are as many
 ended :
     (after : tie.After-loop Inv-loop μ-loop) (b : Bool) →
     let head = after .before in
-    let start = head .before .before .before .before in
+    let start = head .before .before .before .before .before in
     wordOf (head .loop .last) .change ≡ b →
     (b && eqb (head .loop .virgins) (head .loop .changes))
     ≡ soundRun (start .args .sh) (between (wordsOf (now (start .args .table))) (start .args .l .0) (start .args .r .0))
 ended after b e =
     let head = after .before in
-    let start = head .before .before .before .before in
+    let start = head .before .before .before .before .before in
     ap (λ (t : Bool). t && eqb (head .loop .virgins) (head .loop .changes)) (sym e)
     ∙ sym
     (passes-end
@@ -145,7 +151,7 @@ returns : tie.Need-returns Inv-loop μ-loop
 returns c =
     let turn = c .before .before .before in
     let head = turn .before in
-    let start = head .before .before .before .before in
+    let start = head .before .before .before .before .before in
     sym
     (word-refused
     (now (start .args .table))
@@ -178,15 +184,16 @@ sound-run-spec =
     Inv-loop
     μ-loop
     remainders-requires
+    with-change-requires
     add-i
     loop-holds
     word-at-requires
     follows-requires
     virgin-requires
-    bit-requires
+    bit-of-requires
     add-virgins
     change-requires
-    bit-requires-2
+    bit-of-requires-2
     add-changes
     add-i-2
     loop-less
