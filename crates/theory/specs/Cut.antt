@@ -111,7 +111,7 @@ cut-beside gaps.right ws l r ordered low =
 
 -- ---- what lies between two places, word by word
 
-pub between-at : (ws : List Word) (l r i : ℕ) → suc l + i < r → at (between ws l r) i ≡ at ws (suc l + i)
+between-at : (ws : List Word) (l r i : ℕ) → suc l + i < r → at (between ws l r) i ≡ at ws (suc l + i)
 between-at ws l r i low = getD-drop (suc l) (take r ws) i zeroWord ∙ getD-take r ws (suc l + i) zeroWord low
 
 all-of : (f : Word → Bool) (ws : List Word) → ((i : ℕ) → i < length ws → f (at ws i) ≡ true) → all f ws ≡ true
@@ -120,7 +120,7 @@ all-of f [] h = refl
 all-of f (w ∷ ws) h = and-both _ _ (h 0 (omega arith)) (all-of f ws (λ i lt. h (suc i) (omega arith)))
 
 -- all is occupied between two places if each place there is
-pub between-occupied :
+between-occupied :
     (ws : List Word) (l r : ℕ) →
     r ≤ length ws → TakenFrom (occupied ws) (suc l) r → all isOccupied (between ws l r) ≡ true
 between-occupied ws l r low taken =

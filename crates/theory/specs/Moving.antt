@@ -1,21 +1,22 @@
 -- Put by moving words is put by the rule. `brought`: a fill at either end of a sound run, the moves and the mark leave
 -- the run enlarged, whatever the rest of the table is; phases 8 to 10 do so at the record's left and right.
+-- `goal-inside`, `last-follows`: the goal is a place of that stretch, and with mark 1 not its first.
 -- `add-moves`: so they add what put's definition adds, at either gap of an occupied home. `add-alone`: an unoccupied
 -- home gets one word.
 -- Assumes nothing.
-use Prim.Native.Nat.{ℕ, suc, _+_, _≤_, _<_}
+use Prim.Native.Nat.{ℕ, suc, _+_, _-_, _≤_, _<_}
 use mathlib.Core.Path.{_≡_, refl, sym, ap, ap₂, _∙_, subst}
-use mathlib.Core.Bool.{Bool, true, false, _&&_, _||_}
+use mathlib.Core.Bool.{Bool, true, false, not, cond, _&&_, _||_, true≢false}
 use mathlib.Core.List.{List, [], _∷_, _++_}
 use native.Mathlib.Omega.{arith}
 use lib.ListN.{length, set, take, drop}
 use lib.Seq.{sets, split-at, length-take-le}
 use borrow.Author.Tests.{eq-eqb}
 use Rattle.rules.specs.declared.Shape.{Shape}
-use Rattle.rules.specs.Lists.{all, any}
+use Rattle.rules.specs.Lists.{bitOf, count, all, any}
 use Rattle.rules.specs.Word.{Word, zeroWord, isVoid}
 use Rattle.rules.specs.Shape.{places, remainders}
-use Rattle.rules.specs.Entry.{Entry}
+use Rattle.rules.specs.Entry.{Entry, sameHome, precedes}
 use Rattle.rules.specs.Table.{at, occupied, leftGap, rightGap, between, cluster, soundRun}
 use Rattle.rules.specs.Table.{entriesBetween, clusterEntries, guardsVoid, locked}
 use Rattle.rules.specs.Room.{place, roomFor}
@@ -34,6 +35,7 @@ use Rattle.theory.specs.Pairs.{unlocked-same}
 use Rattle.theory.specs.Adding.{locked-append, or-parts}
 use Rattle.theory.specs.Putting.{spliced, add-from}
 use Rattle.theory.specs.Motion.{fillAt, finish}
+use Rattle.theory.specs.Mark.{smaller-le}
 use Rattle.theory.specs.Region.{locks, length-locks}
 use Rattle.theory.specs.Insertion as insertion
 use Rattle.theory.specs.Insertion.{insertion}
@@ -138,6 +140,61 @@ brought side {sh} {ws} {l} {r} {e} h =
           new = h .new;
         })
 
+-- the goal is a place of that stretch
+pub goal-inside :
+    (side : Side) {sh : Shape} {ws : List Word} {l r : ℕ} {e : Entry} →
+    Readable side sh ws l r e → from side l + smaller e (entriesBetween ws l r) < upTo side r
+unfolding entriesBetween
+goal-inside side {sh} {ws} {l} {r} {e} h = go side
+  where
+    run : Run (remainders sh) (suc l) (between ws l r) (entriesBetween ws l r)
+    run = sound-is-run sh (suc l) (between ws l r) (h .low) (h .taken) (h .sound)
+
+    rank : smaller e (entriesBetween ws l r) ≤ r - suc l
+    rank =
+        omega (
+          arith,
+          smaller-le e (h .low) (h .remainder) (run .asc) (h .new),
+          run .size,
+          cut ws l r (omega arith) (h .inside) .inside,
+        )
+
+    go : (side : Side) → from side l + smaller e (entriesBetween ws l r) < upTo side r
+    go gaps.left = omega (arith, rank, h .after, h .before)
+    go gaps.right = omega (arith, rank, h .after, h .before)
+
+-- a key that is larger than all of its group follows one of them
+group-precedes :
+    (e : Entry) (es : List Entry) →
+    any (sameHome e) es ≡ true →
+    all (λ (f : Entry). not (sameHome e f) || precedes f e) es ≡ true → 0 < smaller e es
+unfolding any all smaller count
+group-precedes e [] some larger = absurd (true≢false (sym some))
+group-precedes e (f ∷ es) some larger = go (sameHome e f) (precedes f e) some larger (group-precedes e es)
+  where
+    go :
+        (b c : Bool) →
+        (b || any (sameHome e) es) ≡ true →
+        ((not b || c) && all (λ (f : Entry). not (sameHome e f) || precedes f e) es) ≡ true →
+        (any (sameHome e) es ≡ true →
+        all (λ (f : Entry). not (sameHome e f) || precedes f e) es ≡ true → 0 < smaller e es) →
+        0 < bitOf c + smaller e es
+    go true true some larger rest = omega arith
+    go true false some larger rest = absurd (true≢false (sym larger))
+    go false c some larger rest = omega (arith, rest some larger)
+
+pub last-follows : (e : Entry) (es : List Entry) → markOf e es ≡ 1 → 0 < smaller e es
+unfolding markOf
+last-follows e es =
+    go (any (sameHome e) es) (all (λ (f : Entry). not (sameHome e f) || precedes f e) es) (group-precedes e es)
+  where
+    go :
+        (b c : Bool) →
+        (b ≡ true → c ≡ true → 0 < smaller e es) → _≡_ {A = ℕ} (cond b (cond c 1 0) 2) 1 → 0 < smaller e es
+    go true true follows one = follows refl refl
+    go true false follows one = absurd (omega arith)
+    go false c follows one = absurd (omega arith)
+
 -- ---- put
 
 -- what put has found where it goes on to add e: sound and unlocked surroundings, and e not among their keys
@@ -213,7 +270,10 @@ module _ {sh : Shape} {ws : List Word} {e : Entry} (a : Addable sh ws e) where
     end-void gaps.left = look .left
     end-void gaps.right = look .right
 
-    readable : (side : Side) → Readable side sh ws l r e
+    -- the gaps are places as the read step finds them
+    pub readable :
+        (side : Side) →
+        Readable side sh ws (leftGap (occupied ws) (e .home)) (rightGap (occupied ws) (e .home)) e
     unfolding cluster clusterEntries
     readable side =
         record {

@@ -2,6 +2,7 @@
 -- the moves give from the start. The measure is the number of moves that are left.
 -- Assumes nothing.
 use borrow.Author.Needs.{needs}
+use native.Mathlib.Omega.{arith}
 use denote.Ref.{now}
 use Rattle.motion.specs.Carry.{Carrying, carry-begins, carry-apart, carry-near, carry-moves, carry-ends}
 use Rattle.motion.proofs.hand.carry.Statement.{statement}
@@ -36,13 +37,17 @@ loop-holds c =
     (read .word-at .ensures)
 
 toward-requires : tie.Need-toward-requires Inv-loop μ-loop
-toward-requires c κs = carry-apart (c .before .loop .inv) (c .loop-test .taken)
+toward-requires c κs = carry-apart (c .before .loop .inv) (omega (arith, c .loop-test .taken))
 
 word-at-requires-2 : tie.Need-word-at-requires-2 Inv-loop μ-loop
 word-at-requires-2 c κs =
     let went = c .before in
     let turn = went .before in
-    carry-near (turn .before .loop .inv) (went .toward .result .0) (turn .loop-test .taken) (went .toward .ensures)
+    carry-near
+    (turn .before .loop .inv)
+    (went .toward .result .0)
+    (omega (arith, turn .loop-test .taken))
+    (went .toward .ensures)
 
 with-payload-requires : tie.Need-with-payload-requires Inv-loop μ-loop
 with-payload-requires c κs = search needs
@@ -68,7 +73,7 @@ loop-again c =
     (read .word-at2 .result)
     (wrote .before .with-payload .result)
     (wrote .set-word .last .0)
-    (turn .loop-test .taken)
+    (omega (arith, turn .loop-test .taken))
     (went .toward .ensures)
     (read .word-at2 .ensures)
     (wrote .before .with-payload .ensures)
@@ -92,7 +97,7 @@ returns c =
     (left .before .loop .inv)
     (wrote .before .with-payload2 .result)
     (wrote .set-word2 .last .0)
-    (left .loop-test .left)
+    (omega (arith, left .loop-test .left))
     (wrote .before .with-payload2 .ensures)
     (wrote .set-word2 .ensures)
 
