@@ -30,7 +30,8 @@ impl Busy {
             return Turn::Next(t);
         }
         if is_zero(w) {
-            set_word(table, h, alone_word(remainder_of(sh, t.key)));
+            let alone = alone_word(remainder_of(sh, t.key));
+            set_word(table, h, alone);
             return Turn::Next(Task {
                 phase: 13,
                 answer: 2,

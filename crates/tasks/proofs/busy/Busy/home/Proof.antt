@@ -47,7 +47,7 @@ remainder-of-requires : tie.Need-remainder-of-requires
 remainder-of-requires c κs = search needs
 
 alone-word-requires : tie.Need-alone-word-requires
-alone-word-requires c κs = rw (c .remainder-of .ensures) (remainder-small (c .before .before .before .before .before .before .before .before .before .before .before .pre))
+alone-word-requires c κs = rw (c .remainder-of .ensures) (remainder-small (c .before .before .before .before .before .before .before .before .before .before .pre))
 
 set-word-requires : tie.Need-set-word-requires
 unfolding homePlace
@@ -64,8 +64,8 @@ returns-2 c =
     let word = home-word (unlocked .before) in
     rw (tells (λ w. w .lock) (unlocked .lock .ensures) word (tested .before .if1 .left))
     (rw (tells isZero (tested .is-zero .ensures) word (c .before .before .before .before .before .before .if2 .taken))
-    (rw (← c .before .before .before .before .before .before .before .before .before .before .before .before .home-place .ensures, ← c .before .before .before .before .remainder-of .ensures)
-    (rw (c .before .before .set-word .ensures, c .before .before .before .alone-word .ensures))))
+    (rw (← c .before .before .before .before .before .before .before .before .before .before .before .before .home-place .ensures, ← c .before .before .before .before .before .remainder-of .ensures)
+    (rw (c .before .before .set-word .ensures, c .before .before .before .before .alone-word .ensures))))
 
 occupied-requires : tie.Need-occupied-requires
 occupied-requires c κs = search needs
