@@ -1,13 +1,13 @@
--- When a record fits (01, Tasks and their steps). `Fits`: what holds of a busy record that fits, and `fitting` that its test tells it.
+-- When a record fits (01, Tasks and their steps). `Fits`: what holds of a busy record that fits; `fitting`: its test tells it.
 -- `resting` to `beyond-fits`: how the phase alone decides. `work-none`: where hand, goal and mark are not asked about.
 -- Assumes nothing.
-use Prim.Native.Nat.{ℕ, suc, _≤_, _<_}
-use mathlib.Core.Path.{_≡_, refl, sym, _∙_}
+use Prim.Native.Nat.{suc, _≤_, _<_}
+use mathlib.Core.Path.{_≡_, refl, sym}
 use mathlib.Core.Bool.{Bool, true, false, not, _&&_, _||_, and-eq-true-iff, true≢false}
-use mathlib.Core.Logic.{_⊎_, inl, inr, ⊎-elim}
+use mathlib.Core.Logic.{_⊎_, inl, inr}
 use native.Mathlib.Omega.{arith}
 use lib.Dec.{ltb, leb, eqb}
-use borrow.Author.Tests.{le-leb, lt-leb, eq-eqb, ne-eqb, ltb-true, leb-true, leb-false, eqb-true, eqb-false, not-true}
+use borrow.Author.Tests.{le-leb, lt-leb, eq-eqb, ne-eqb, ltb-true, leb-true, eqb-false, not-true}
 use Rattle.rules.specs.declared.Shape.{Shape}
 use Rattle.rules.specs.declared.Task.{Task}
 use Rattle.rules.specs.Shape.{homes, keys, rightGuard}
@@ -22,12 +22,15 @@ fitsWork sh t =
     && implies (eqb (t .phase) 10) (eqb (t .hand) (t .goal))
 
 -- they ask nothing in other phases
-pub work-none : (sh : Shape) (t : Task) → (t .phase ≡ 8 → ⊥) → (t .phase ≡ 9 → ⊥) → (t .phase ≡ 10 → ⊥) → fitsWork sh t ≡ true
+pub work-none :
+    (sh : Shape) (t : Task) →
+    (t .phase ≡ 8 → ⊥) → (t .phase ≡ 9 → ⊥) → (t .phase ≡ 10 → ⊥) → fitsWork sh t ≡ true
 unfolding fitsWork
 work-none sh t not-8 not-9 not-10 =
     rw (ne-eqb (t .phase) 8 not-8, ne-eqb (t .phase) 9 not-9, ne-eqb (t .phase) 10 not-10) (go (leb 8 (t .phase)) refl)
   where
-    go : (b : Bool) → leb 8 (t .phase) ≡ b → (implies (b && leb (t .phase) 10) (fitsHand sh t) && true && true && true) ≡ true
+    go : (b : Bool) → leb 8 (t .phase) ≡ b →
+        (implies (b && leb (t .phase) 10) (fitsHand sh t) && true && true && true) ≡ true
     go false e = refl
     go true e =
         let low = leb-true 8 (t .phase) e in
@@ -117,7 +120,8 @@ fitting-hand sh t e =
       goal-high = leb-true (t .goal) (homes sh) goal-high;
       mark-one = λ one.
           leb-true 2 (t .goal)
-          (both (leb 2 (t .goal)) (ltb (t .left) (t .goal)) (asked (eqb (t .mark) 1) _ mark-one (eq-eqb (t .mark) 1 one)) .0);
+          (both (leb 2 (t .goal)) (ltb (t .left) (t .goal))
+          (asked (eqb (t .mark) 1) _ mark-one (eq-eqb (t .mark) 1 one)) .0);
     }
 
 fitting-busy : (sh : Shape) (t : Task) → fitsBusy sh t ≡ true → Fits sh t
@@ -135,8 +139,10 @@ fitting-busy sh t e =
     record {
       key = ltb-true (t .key) (keys sh) key;
       left = λ h. ltb-true (t .left) (homePlace sh t) (asked (leb 2 (t .phase)) _ left (le-leb 2 (t .phase) h));
-      right-low = λ h. leb-true (suc (homePlace sh t)) (t .right) (both _ (leb (t .right) (rightGuard sh)) (right-asked h) .0);
-      right-high = λ h. leb-true (t .right) (rightGuard sh) (both (leb (suc (homePlace sh t)) (t .right)) _ (right-asked h) .1);
+      right-low = λ h.
+          leb-true (suc (homePlace sh t)) (t .right) (both _ (leb (t .right) (rightGuard sh)) (right-asked h) .0);
+      right-high = λ h.
+          leb-true (t .right) (rightGuard sh) (both (leb (suc (homePlace sh t)) (t .right)) _ (right-asked h) .1);
       hand = λ low high.
           fitting-hand sh t
           (asked (within 8 10 (t .phase)) _ hand (rw (le-leb 8 (t .phase) low, le-leb (t .phase) 10 high)));

@@ -5,7 +5,6 @@ use Prim.Native.Nat.{ℕ}
 use mathlib.Core.Path.{_≡_, refl, ap, sym}
 use mathlib.Core.Bool.{Bool, true, false, cond}
 use mathlib.Core.List.{List}
-use lib.ListN.{set}
 use lib.Seq.{set-getD}
 use lib.Dec.{ltb}
 use Rattle.rules.specs.declared.Task.{Task}
@@ -34,9 +33,13 @@ unfolding give giveOne
 give-one m r key ts i good = rw good (go (inRange (shapeOf m r)) (ltb key (keys (shapeOf m r))))
   where
     go : (shape small : Bool) →
-        cond shape (cond small (storedAt ts i (giveTo (taskAt ts i) key)) (leaves (refuses 2) ts)) (leaves (refuses 1) ts)
+        cond shape
+        (cond small (storedAt ts i (giveTo (taskAt ts i) key)) (leaves (refuses 2) ts))
+        (leaves (refuses 1) ts)
         ≡ storedAt ts i
-        (cond shape (cond small (giveTo (taskAt ts i) key) (leaves (refuses 2) (taskAt ts i))) (leaves (refuses 1) (taskAt ts i)))
+        (cond shape
+        (cond small (giveTo (taskAt ts i) key) (leaves (refuses 2) (taskAt ts i)))
+        (leaves (refuses 1) (taskAt ts i)))
     go true true = refl
     go true false = ap (leaves (refuses 2)) (sym (set-getD ts i noTask))
     go false small = ap (leaves (refuses 1)) (sym (set-getD ts i noTask))

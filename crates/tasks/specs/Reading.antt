@@ -1,9 +1,9 @@
 -- What the read step makes of a read, `afterRead`, and that it is the rules' `readEntries`.
 -- `goal-small`: the smaller keys have room between the ends, so that goal is a place.
 -- Assumes nothing.
-use Prim.Native.Nat.{ℕ, zero, suc, _+_, _≤_, _<_}
+use Prim.Native.Nat.{ℕ, suc, _+_, _≤_, _<_}
 use mathlib.Core.Path.{_≡_, refl, ap}
-use mathlib.Core.Bool.{Bool, true, false, cond, _&&_}
+use mathlib.Core.Bool.{Bool, true, cond, _&&_}
 use mathlib.Core.List.{List, [], _∷_}
 use native.Mathlib.Omega.{arith}
 use lib.ListN.{length}
@@ -36,7 +36,8 @@ afterRead sh t read =
     (toPhase 11 (withAnswer 3 t))
     (toPhase 8 (withHand (handOf t) (withGoal (goalOf t (read .smaller)) (read .mark) t))))
 
-pub after-entries : (sh : Shape) (t : Task) (e : Entry) (es : List Entry) → afterRead sh t (readOf e es) ≡ readEntries sh t e es
+pub after-entries :
+    (sh : Shape) (t : Task) (e : Entry) (es : List Entry) → afterRead sh t (readOf e es) ≡ readEntries sh t e es
 unfolding afterRead readEntries readOf
 after-entries sh t e es = refl
 

@@ -1,5 +1,5 @@
--- What has been asked before a phase acts (01, Tasks and their steps), and what follows for the places that the record names:
--- each stands in the table, and an occupied one is no guard.
+-- What has been asked before a phase acts (01, Tasks and their steps), and what follows for the places that the record
+-- names: each stands in the table, and an occupied one is no guard.
 -- Assumes nothing.
 use Prim.Native.Nat.{ℕ, zero, suc, _+_, _*_, _≤_, _<_}
 use mathlib.Core.Path.{_≡_, sym, _∙_}
@@ -102,6 +102,8 @@ module _ {n : ℕ} {sh : Shape} {bytes : List ℕ} {t : Task} (ready : Ready n s
   pub occupied-positive : (p : ℕ) → at (wordsOf bytes) p .occupied ≡ true → 1 ≤ p
   unfolding guardsVoid
   occupied-positive zero e =
-      let void = and-eq-true-iff (isVoid (at (wordsOf bytes) 0)) (isVoid (at (wordsOf bytes) (rightGuard sh))) .0 (ready .guards) .0 in
+      let void =
+      and-eq-true-iff
+      (isVoid (at (wordsOf bytes) 0)) (isVoid (at (wordsOf bytes) (rightGuard sh))) .0 (ready .guards) .0 in
       absurd (true≢false (sym e ∙ void-free (at (wordsOf bytes) 0) void))
   occupied-positive (suc p) e = omega arith

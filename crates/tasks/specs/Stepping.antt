@@ -1,6 +1,6 @@
--- One step on one record (01, Tasks and their steps), for every input, and a turn with the bytes beside it read as the paper's answer.
+-- One step on one record (01, Tasks and their steps), for every input; a turn and the bytes read as the paper's answer.
 -- `step-one`: the rules' step is the step on the record of the task number, stored back.
--- `follows-left`: what a phase makes of the words it makes of every lent byte. `phase-1` to `phase-12`: the phases by number.
+-- `follows-left`: what a phase makes of the words it makes of every lent byte. `phase-1` to `phase-12`: by number.
 -- Assumes nothing.
 use Prim.Native.Nat.{ℕ, _*_, _≤_, _<_}
 use mathlib.Core.Path.{_≡_, refl, ap, sym}
@@ -30,7 +30,7 @@ pub record Left : Type 0 where
   pub table : List ℕ
   pub task : Task
 
--- a turn says 0 with the record that follows, or a refusal's number with the record as it was; beside it stand the bytes
+-- a turn says 0 with the record that follows, or a refusal's number with the record as it was; the bytes are beside it
 abbrev pub stepSays : Task → Turn → List ℕ → Leaves Left
 stepSays t (Next u) bytes = leaves (says 0) (record { table = bytes; task = u })
 stepSays t (Refused n) bytes = leaves (refuses (numberOfRefusal n)) (record { table = bytes; task = t })

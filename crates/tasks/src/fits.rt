@@ -6,7 +6,7 @@ use words::key::home_place;
 use words::shape::homes;
 use words::shape::right_guard;
 ghost use mathlib.Core.Path.{_≡_};
-ghost use mathlib.Core.Bool.{_&&_, _||_, not};
+ghost use mathlib.Core.Bool.{_&&_};
 ghost use Prim.Native.Nat.{suc, _<_};
 ghost use lib.Dec.{ltb, leb, eqb};
 ghost use Rattle.rules.specs.Shape.{keys, rightGuard};

@@ -1,4 +1,4 @@
-// Phases 8 to 12: a busy task that holds both locks fills its key in, moves it to its goal, marks it, and frees the ends.
+// Phases 8 to 12: a busy task that holds both locks fills its key in, moves it to its goal, marks it, frees the ends.
 use crate::busy::Busy;
 use crate::lock::set_lock;
 use motion::hand::exchange;

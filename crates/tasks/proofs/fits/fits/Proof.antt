@@ -15,7 +15,8 @@ returns c = sym (resting-fits (c .before .args .sh) (c .before .args .t) (c .mat
 returns-2 : tie.Need-returns-2
 returns-2 c =
     let start = c .before .before .before in
-    c .fits-busy .ensures ∙ sym (busy-fits (start .args .sh) (start .args .t) (c .before .before .match .rest .1) (c .before .if1 .taken))
+    c .fits-busy .ensures
+    ∙ sym (busy-fits (start .args .sh) (start .args .t) (c .before .before .match .rest .1) (c .before .if1 .taken))
 
 returns-3 : tie.Need-returns-3
 returns-3 c =

@@ -15,7 +15,8 @@ within-requires c κs = search needs
 
 returns : tie.Need-returns
 unfolding fitsHand
-returns c = rw (← c .before .before .homes .ensures) (rw (sym (c .before .within .ensures) ∙ not-true _ (c .if1 .taken)))
+returns c =
+    rw (← c .before .before .homes .ensures) (rw (sym (c .before .within .ensures) ∙ not-true _ (c .if1 .taken)))
 
 within-requires-2 : tie.Need-within-requires-2
 within-requires-2 c κs = search needs

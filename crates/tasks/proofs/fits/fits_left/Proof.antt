@@ -11,7 +11,9 @@ home-place-requires c κs = search needs
 
 returns : tie.Need-returns
 unfolding homePlace
-returns c = rw (le-leb 2 (c .before .before .before .before .before .args .t .phase) (c .before .before .before .if1 .taken)) (rw (c .before .before .home-place .ensures))
+returns c =
+    rw (le-leb 2 (c .before .before .before .before .before .args .t .phase) (c .before .before .before .if1 .taken))
+    (rw (c .before .before .home-place .ensures))
 
 returns-2 : tie.Need-returns-2
 returns-2 c = rw (lt-leb 2 (c .before .before .args .t .phase) (c .if1 .left))

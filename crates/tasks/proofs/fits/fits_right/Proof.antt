@@ -28,7 +28,12 @@ within-requires c κs = search needs
 returns : tie.Need-returns
 unfolding homePlace
 returns c =
-    rw (le-leb 3 (c .before .before .before .before .before .before .args .t .phase) (c .before .before .before .before .if1 .taken), ← add-one, ← c .before .before .before .home-place .ensures)
+    rw (
+      le-leb 3 (c .before .before .before .before .before .before .args .t .phase)
+          (c .before .before .before .before .if1 .taken),
+      ← add-one,
+      ← c .before .before .before .home-place .ensures,
+    )
     (rw (← c .before .right-guard .ensures) (c .within .ensures))
 
 returns-2 : tie.Need-returns-2

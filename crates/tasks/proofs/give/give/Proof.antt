@@ -2,7 +2,6 @@
 -- Assumes nothing.
 use borrow.Author.Needs.{needs}
 use mathlib.Core.Path.{sym, _∙_}
-use borrow.Author.Tests.{ltb-true}
 use Rattle.words.specs.Range.{in-range}
 use Rattle.tasks.specs.Given.{giveOne}
 use Rattle.tasks.proofs.give.give.Statement.{statement}

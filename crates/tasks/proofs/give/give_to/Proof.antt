@@ -18,7 +18,8 @@ returns-2 : tie.Need-returns-2
 unfolding giveTo
 returns-2 c =
     let t = c .before .before .args .t in
-    rw (⊎-elim (λ w. idle t (w .keys1)) (λ w. done-or-beyond t (w .1 .left)) (c .before .match .came)) (rw (c .given .ensures))
+    rw (⊎-elim (λ w. idle t (w .keys1)) (λ w. done-or-beyond t (w .1 .left)) (c .before .match .came))
+    (rw (c .given .ensures))
 
 pub give-to-spec : {M : Type 1} → statement M
 give-to-spec = tie.close (tie.spec given-requires returns returns-2)

@@ -19,7 +19,8 @@ is-lock-requires c κs = search needs
 
 returns : tie.Need-returns
 unfolding readable
-returns c = rw (tells isLock (c .before .is-lock .ensures) (c .before .before .word-at .ensures) (not-true _ (c .if1 .taken)))
+returns c =
+    rw (tells isLock (c .before .is-lock .ensures) (c .before .before .word-at .ensures) (not-true _ (c .if1 .taken)))
 
 word-at-requires-2 : tie.Need-word-at-requires-2
 word-at-requires-2 c κs = right-inside (c .before .before .before .before .pre) (omega arith)
@@ -31,8 +32,10 @@ returns-2 : tie.Need-returns-2
 unfolding readable
 returns-2 c =
     let left = c .before .before .before in
-    rw (tells isLock (left .before .is-lock .ensures) (left .before .before .word-at .ensures) (not-false _ (left .if1 .left)))
-    (rw (tells isLock (c .before .is-lock2 .ensures) (c .before .before .word-at2 .ensures) (not-true _ (c .if2 .taken))))
+    rw (tells isLock (left .before .is-lock .ensures) (left .before .before .word-at .ensures)
+    (not-false _ (left .if1 .left)))
+    (rw (tells isLock (c .before .is-lock2 .ensures) (c .before .before .word-at2 .ensures)
+    (not-true _ (c .if2 .taken))))
 
 all-occupied-requires : tie.Need-all-occupied-requires
 all-occupied-requires c κs =
@@ -44,8 +47,10 @@ unfolding readable
 returns-3 c =
     let right = c .before .before in
     let left = right .before .before .before in
-    rw (tells isLock (left .before .is-lock .ensures) (left .before .before .word-at .ensures) (not-false _ (left .if1 .left)))
-    (rw (tells isLock (right .before .is-lock2 .ensures) (right .before .before .word-at2 .ensures) (not-false _ (right .if2 .left)))
+    rw (tells isLock (left .before .is-lock .ensures) (left .before .before .word-at .ensures)
+    (not-false _ (left .if1 .left)))
+    (rw (tells isLock (right .before .is-lock2 .ensures) (right .before .before .word-at2 .ensures)
+    (not-false _ (right .if2 .left)))
     (rw (sym (c .before .all-occupied .ensures) ∙ not-true _ (c .if3 .taken))))
 
 sound-run-requires : tie.Need-sound-run-requires
@@ -59,8 +64,10 @@ returns-4 c =
     let full = c .before in
     let right = full .before .before in
     let left = right .before .before .before in
-    rw (tells isLock (left .before .is-lock .ensures) (left .before .before .word-at .ensures) (not-false _ (left .if1 .left)))
-    (rw (tells isLock (right .before .is-lock2 .ensures) (right .before .before .word-at2 .ensures) (not-false _ (right .if2 .left)))
+    rw (tells isLock (left .before .is-lock .ensures) (left .before .before .word-at .ensures)
+    (not-false _ (left .if1 .left)))
+    (rw (tells isLock (right .before .is-lock2 .ensures) (right .before .before .word-at2 .ensures)
+    (not-false _ (right .if2 .left)))
     (rw (sym (full .before .all-occupied .ensures) ∙ not-false _ (full .if3 .left)) (c .sound-run .ensures)))
 
 pub readable-spec : {M : Type 1} → statement M

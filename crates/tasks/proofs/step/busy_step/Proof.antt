@@ -36,10 +36,24 @@ unfolding stepOf
 returns c =
     let start = c .before .before .before .before .before .before .before .before in
     let (range, (size, (fits, awake))) = start .pre in
-    rw (fits, awake, sym (c .before .before .before .before .before .guards-void .ensures) ∙ c .before .before .before .before .if1 .taken)
-    (follows-left (start .args .sh) (start .args .t) (now (start .args .table)) _ (c .before .before .act .last .1 .1 .0)
-    (record { size = size; small = λ i. omega (arith, c .before .before .before .before .before .before .before .slice-known .given i) })
-    (record { size = c .before .before .act .kept .1 .1 .0 ∙ size; small = λ i. omega (arith, c .slice-known2 .given i) })
+    rw (
+      fits,
+      awake,
+      sym (c .before .before .before .before .before .guards-void .ensures)
+          ∙ c .before .before .before .before .if1 .taken,
+    )
+    (follows-left (start .args .sh) (start .args .t) (now (start .args .table)) _
+    (c .before .before .act .last .1 .1 .0)
+    (record {
+      size = size;
+      small = λ i. omega
+          (arith, c .before .before .before .before .before .before .before .slice-known .given i);
+    })
+    (record {
+      size = c .before .before .act .kept .1 .1 .0
+          ∙ size;
+      small = λ i. omega (arith, c .slice-known2 .given i);
+    })
     (c .before .before .act .ensures))
 
 same-length-2 : tie.Need-same-length-2

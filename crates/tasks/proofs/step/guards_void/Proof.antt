@@ -30,7 +30,8 @@ is-void-requires-2 c κs = search needs
 returns : tie.Need-returns
 unfolding guardsVoid
 returns c =
-    rw (tells isVoid (c .before .before .before .before .is-void .ensures) (c .before .before .before .before .before .word-at .ensures) (c .before .before .before .if1 .taken))
+    rw (tells isVoid (c .before .before .before .before .is-void .ensures)
+    (c .before .before .before .before .before .word-at .ensures) (c .before .before .before .if1 .taken))
     (rw (← c .before .before .right-guard .ensures) (c .is-void2 .ensures ∙ ap isVoid (c .before .word-at2 .ensures)))
 
 returns-2 : tie.Need-returns-2

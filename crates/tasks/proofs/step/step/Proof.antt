@@ -15,7 +15,8 @@ shape-of-requires c κs = search needs
 
 step-of-requires : tie.Need-step-of-requires
 step-of-requires c κs =
-    rw (c .before .shape-of .ensures) (good-table _ _ (sym (c .before .before .before .good-table .ensures) ∙ c .before .before .if1 .taken))
+    rw (c .before .shape-of .ensures)
+    (good-table _ _ (sym (c .before .before .before .good-table .ensures) ∙ c .before .before .if1 .taken))
 
 same-length : tie.Need-same-length
 same-length c = search needs
@@ -23,7 +24,8 @@ same-length c = search needs
 returns : tie.Need-returns
 unfolding stepOne
 returns c =
-    rw (sym (c .before .before .before .before .before .before .good-table .ensures) ∙ c .before .before .before .before .before .if1 .taken)
+    rw (sym (c .before .before .before .before .before .before .good-table .ensures)
+    ∙ c .before .before .before .before .before .if1 .taken)
     (rw (← c .before .before .before .before .shape-of .ensures) (c .before .before .step-of .ensures))
 
 returns-2 : tie.Need-returns-2

@@ -16,14 +16,22 @@ busy-step-requires c κs =
       start .pre .0,
       (
         start .pre .1,
-        (sym (c .before .before .before .fits2 .ensures) ∙ c .before .before .if1 .taken, not-resting (start .args .t) (c .before .match .rest .1)),
+        (
+          sym (c .before .before .before .fits2 .ensures)
+              ∙ c .before .before .if1 .taken,
+          not-resting (start .args .t) (c .before .match .rest .1),
+        ),
       ),
     )
 
 returns : tie.Need-returns
 unfolding stepOf
 returns c =
-    rw (sym (c .before .before .fits2 .ensures) ∙ c .before .if1 .taken, resting (c .before .before .before .before .args .t) (c .match .keys1))
+    rw (
+      sym (c .before .before .fits2 .ensures)
+          ∙ c .before .if1 .taken,
+      resting (c .before .before .before .before .args .t) (c .match .keys1),
+    )
 
 same-length : tie.Need-same-length
 same-length c = search needs

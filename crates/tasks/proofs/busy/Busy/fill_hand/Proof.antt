@@ -35,8 +35,13 @@ returns : tie.Need-returns
 unfolding fillHand split fillAt
 returns c =
     let tested = c .before .before .before .before .before .before .before in
-    rw (tells isLock (tested .is-lock .ensures) (tested .before .word-at .ensures) (c .before .before .before .before .before .before .if1 .taken))
-    (rw (c .moves-on .ensures, ← c .before .before .before .before .remainder-of .ensures, c .before .before .before .fill-at .ensures))
+    rw (tells isLock (tested .is-lock .ensures) (tested .before .word-at .ensures)
+    (c .before .before .before .before .before .before .if1 .taken))
+    (rw (
+      c .moves-on .ensures,
+      ← c .before .before .before .before .remainder-of .ensures,
+      c .before .before .before .fill-at .ensures,
+    ))
 
 same-length-2 : tie.Need-same-length-2
 same-length-2 c = search needs

@@ -1,8 +1,7 @@
 -- `home` meets its contract: the home's word is locked, 0, occupied, or none of these.
 -- Assumes nothing.
 use borrow.Author.Needs.{needs}
-use native.Mathlib.Omega.{arith}
-use mathlib.Core.Path.{_≡_, _∙_, ap}
+use mathlib.Core.Path.{_≡_}
 use denote.Ref.{now}
 use Rattle.rules.specs.Word.{wordOf, isZero}
 use Rattle.rules.specs.Bytes.{wordsOf}
@@ -26,7 +25,8 @@ word-at-requires c κs = rw (c .before .home-place .ensures) (home-inside (c .be
 home-word :
     (c : tie.After-word-at) →
     let start = c .before .before .before .before .before in
-    wordOf (c .word-at .result) ≡ at (wordsOf (now (start .args .table))) (homePlace (start .args .sh) (start .args .self .0))
+    wordOf (c .word-at .result) ≡ at (wordsOf (now (start .args .table)))
+    (homePlace (start .args .sh) (start .args .self .0))
 unfolding homePlace
 home-word c = rw (← c .before .before .home-place .ensures) (c .word-at .ensures)
 
@@ -47,11 +47,16 @@ remainder-of-requires : tie.Need-remainder-of-requires
 remainder-of-requires c κs = search needs
 
 alone-word-requires : tie.Need-alone-word-requires
-alone-word-requires c κs = rw (c .remainder-of .ensures) (remainder-small (c .before .before .before .before .before .before .before .before .before .before .pre))
+alone-word-requires c κs =
+    rw (c .remainder-of .ensures)
+    (remainder-small (c .before .before .before .before .before .before .before .before .before .before .pre))
 
 set-word-requires : tie.Need-set-word-requires
 unfolding homePlace
-set-word-requires c κs = rw (c .before .before .before .before .before .before .before .before .before .home-place .ensures) (home-inside (c .before .before .before .before .before .before .before .before .before .before .before .before .pre))
+set-word-requires c κs =
+    rw (c .before .before .before .before .before .before .before .before .before .home-place .ensures)
+    (home-inside
+    (c .before .before .before .before .before .before .before .before .before .before .before .before .pre))
 
 same-length-2 : tie.Need-same-length-2
 same-length-2 c = search needs
@@ -72,7 +77,9 @@ occupied-requires c κs = search needs
 
 sub-t24 : tie.Need-sub-t24
 unfolding homePlace
-sub-t24 c = rw (c .before .before .before .before .before .before .before .before .before .home-place .ensures) (home-low (c .before .before .before .before .before .before .before .before .before .before .before .before .pre))
+sub-t24 c =
+    rw (c .before .before .before .before .before .before .before .before .before .home-place .ensures)
+    (home-low (c .before .before .before .before .before .before .before .before .before .before .before .before .pre))
 
 same-length-3 : tie.Need-same-length-3
 same-length-3 c = search needs

@@ -25,7 +25,8 @@ returns : tie.Need-returns
 unfolding lockRight
 returns c =
     let tested = c .before .before .before .before .before in
-    rw (tells isZero (tested .is-zero .ensures) (tested .before .word-at .ensures) (c .before .before .before .before .if1 .taken))
+    rw (tells isZero (tested .is-zero .ensures) (tested .before .word-at .ensures)
+    (c .before .before .before .before .if1 .taken))
     (rw (c .before .before .set-lock .ensures))
 
 same-length-2 : tie.Need-same-length-2

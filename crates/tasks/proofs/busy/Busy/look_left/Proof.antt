@@ -2,7 +2,6 @@
 -- Assumes nothing.
 use borrow.Author.Needs.{needs}
 use native.Mathlib.Omega.{arith}
-use Rattle.rules.specs.Word.{Word}
 use Rattle.rules.specs.Phase.{lookLeft}
 use Rattle.rules.specs.Record.{homePlace}
 use Rattle.tasks.specs.Taken.{tells}
@@ -39,7 +38,8 @@ returns-2 : tie.Need-returns-2
 unfolding lookLeft homePlace
 returns-2 c =
     let read = c .before .before .before in
-    rw (tells (λ w. w .occupied) (read .occupied .ensures) (read .before .word-at .ensures) (c .before .before .if1 .left))
+    rw (tells (λ w. w .occupied) (read .occupied .ensures) (read .before .word-at .ensures)
+    (c .before .before .if1 .left))
     (rw (c .before .home-place .ensures))
 
 pub look-left-spec : {M : Type 1} → statement M

@@ -25,7 +25,8 @@ returns c =
 
 returns-2 : tie.Need-returns-2
 unfolding lookRight
-returns-2 c = rw (tells (λ w. w .occupied) (c .before .occupied .ensures) (c .before .before .word-at .ensures) (c .if1 .left))
+returns-2 c =
+    rw (tells (λ w. w .occupied) (c .before .occupied .ensures) (c .before .before .word-at .ensures) (c .if1 .left))
 
 pub look-right-spec : {M : Type 1} → statement M
 look-right-spec = tie.close (tie.spec word-at-requires occupied-requires add-t8 returns returns-2)

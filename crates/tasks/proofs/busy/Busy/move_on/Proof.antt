@@ -22,7 +22,8 @@ occupied-requires c κs = search needs
 exchange-requires : tie.Need-exchange-requires
 exchange-requires c κs =
     let ready = c .before .before .before .before .before .before .before .before .pre in
-    rw (c .before .before .before .before .before .toward .ensures) (hand-inside ready (omega arith) (omega arith), neighbour-inside ready refl)
+    rw (c .before .before .before .before .before .toward .ensures)
+    (hand-inside ready (omega arith) (omega arith), neighbour-inside ready refl)
 
 moves-on-requires : tie.Need-moves-on-requires
 moves-on-requires c κs = search needs
@@ -35,7 +36,8 @@ unfolding move
 returns c =
     let tested = c .before .before .before .before .before .before in
     rw (neighbour-toward, ← c .before .before .before .before .before .before .before .before .before .toward .ensures)
-    (rw (tells (λ w. w .occupied) (tested .occupied .ensures) (tested .before .word-at .ensures) (c .before .before .before .before .before .if1 .taken))
+    (rw (tells (λ w. w .occupied) (tested .occupied .ensures) (tested .before .word-at .ensures)
+    (c .before .before .before .before .before .if1 .taken))
     (rw (c .moves-on .ensures, c .before .before .before .exchange .ensures)))
 
 same-length-2 : tie.Need-same-length-2

@@ -27,7 +27,8 @@ read-between-requires c κs =
       ends-apart ready (omega arith),
       (
         right-within ready (omega arith),
-        readable-housed (c .before .before .before .before .before .before .args .sh) _ _ (sym (tested .readable .ensures) ∙ c .before .before .if1 .taken),
+        readable-housed (c .before .before .before .before .before .before .args .sh) _ _
+            (sym (tested .readable .ensures) ∙ c .before .before .if1 .taken),
       ),
     )
 
@@ -40,7 +41,8 @@ after-read-requires c κs =
 returns : tie.Need-returns
 unfolding read split
 returns c =
-    rw (sym (c .before .before .before .before .before .readable .ensures) ∙ c .before .before .before .before .if1 .taken)
+    rw (sym (c .before .before .before .before .before .readable .ensures)
+    ∙ c .before .before .before .before .if1 .taken)
     (rw (c .after-read .ensures, c .before .read-between .ensures, after-entries)
     (rw (c .before .before .before .home-place .ensures, c .before .before .remainder-of .ensures)))
 

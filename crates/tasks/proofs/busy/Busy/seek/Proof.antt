@@ -31,7 +31,9 @@ same-length : tie.Need-same-length
 same-length c = search needs
 
 returns : tie.Need-returns
-returns c = c .before .before .home .ensures ∙ ap (takes _) (sym (phase-1 _ _ _ (c .before .before .before .before .match .keys1)))
+returns c =
+    c .before .before .home .ensures
+    ∙ ap (takes _) (sym (phase-1 _ _ _ (c .before .before .before .before .match .keys1)))
 
 same-length-2 : tie.Need-same-length-2
 same-length-2 c = search needs
@@ -49,13 +51,17 @@ same-length-4 : tie.Need-same-length-4
 same-length-4 c = search needs
 
 returns-4 : tie.Need-returns-4
-returns-4 c = c .before .before .lock-left .ensures ∙ ap (takes _) (sym (phase-4 _ _ _ (c .before .before .before .before .match .keys4)))
+returns-4 c =
+    c .before .before .lock-left .ensures
+    ∙ ap (takes _) (sym (phase-4 _ _ _ (c .before .before .before .before .match .keys4)))
 
 same-length-5 : tie.Need-same-length-5
 same-length-5 c = search needs
 
 returns-5 : tie.Need-returns-5
-returns-5 c = c .before .before .lock-right .ensures ∙ ap (takes _) (sym (phase-5 _ _ _ (c .before .before .before .before .match .keys5)))
+returns-5 c =
+    c .before .before .lock-right .ensures
+    ∙ ap (takes _) (sym (phase-5 _ _ _ (c .before .before .before .before .match .keys5)))
 
 same-length-6 : tie.Need-same-length-6
 same-length-6 c = search needs
@@ -65,7 +71,9 @@ returns-6 c =
     let start = c .before .before .before .before .before .before in
     let others = c .before .before .before .before .match .rest in
     let low : 6 ≤ start .args .self .0 .phase =
-    above 5 (others .1) (above 4 (others .0 .1) (above 3 (others .0 .0 .1) (above 2 (others .0 .0 .0 .1) (above 1 (others .0 .0 .0 .0 .1) (start .pre .1 .0))))) in
+    above 5 (others .1)
+    (above 4 (others .0 .1)
+    (above 3 (others .0 .0 .1) (above 2 (others .0 .0 .0 .1) (above 1 (others .0 .0 .0 .0 .1) (start .pre .1 .0))))) in
     c .before .before .back-off .ensures ∙ ap (takes _) (sym (phase-6 _ _ _ (le-antisymm (start .pre .1 .1) low)))
 
 pub seek-spec : {M : Type 1} → statement M

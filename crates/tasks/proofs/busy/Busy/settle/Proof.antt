@@ -37,25 +37,33 @@ same-length-2 : tie.Need-same-length-2
 same-length-2 c = search needs
 
 returns-2 : tie.Need-returns-2
-returns-2 c = c .before .before .fill-hand .ensures ∙ ap (takes _) (sym (phase-8 _ _ _ (c .before .before .before .before .match .keys2)))
+returns-2 c =
+    c .before .before .fill-hand .ensures
+    ∙ ap (takes _) (sym (phase-8 _ _ _ (c .before .before .before .before .match .keys2)))
 
 same-length-3 : tie.Need-same-length-3
 same-length-3 c = search needs
 
 returns-3 : tie.Need-returns-3
-returns-3 c = c .before .before .move-on .ensures ∙ ap (takes _) (sym (phase-9 _ _ _ (c .before .before .before .before .match .keys3)))
+returns-3 c =
+    c .before .before .move-on .ensures
+    ∙ ap (takes _) (sym (phase-9 _ _ _ (c .before .before .before .before .match .keys3)))
 
 same-length-4 : tie.Need-same-length-4
 same-length-4 c = search needs
 
 returns-4 : tie.Need-returns-4
-returns-4 c = c .before .before .mark .ensures ∙ ap (takes _) (sym (phase-10 _ _ _ (c .before .before .before .before .match .keys4)))
+returns-4 c =
+    c .before .before .mark .ensures
+    ∙ ap (takes _) (sym (phase-10 _ _ _ (c .before .before .before .before .match .keys4)))
 
 same-length-5 : tie.Need-same-length-5
 same-length-5 c = search needs
 
 returns-5 : tie.Need-returns-5
-returns-5 c = c .before .before .free-left .ensures ∙ ap (takes _) (sym (phase-11 _ _ _ (c .before .before .before .before .match .keys5)))
+returns-5 c =
+    c .before .before .free-left .ensures
+    ∙ ap (takes _) (sym (phase-11 _ _ _ (c .before .before .before .before .match .keys5)))
 
 same-length-6 : tie.Need-same-length-6
 same-length-6 c = search needs
@@ -65,7 +73,9 @@ returns-6 c =
     let start = c .before .before .before .before .before .before in
     let others = c .before .before .before .before .match .rest in
     let low : 12 ≤ start .args .self .0 .phase =
-    above 11 (others .1) (above 10 (others .0 .1) (above 9 (others .0 .0 .1) (above 8 (others .0 .0 .0 .1) (above 7 (others .0 .0 .0 .0 .1) (start .pre .1 .0))))) in
+    above 11 (others .1)
+    (above 10 (others .0 .1)
+    (above 9 (others .0 .0 .1) (above 8 (others .0 .0 .0 .1) (above 7 (others .0 .0 .0 .0 .1) (start .pre .1 .0))))) in
     c .before .before .free-right .ensures ∙ ap (takes _) (sym (phase-12 _ _ _ (le-antisymm (start .pre .1 .1) low)))
 
 pub settle-spec : {M : Type 1} → statement M
