@@ -1,4 +1,4 @@
--- When a record fits (01, Tasks and their steps). `Fits`: what holds of a busy record that fits; `fitting`: its test tells it.
+-- When a record fits (01, Tasks and their steps). `Fits`: what holds of a busy one; `fitting`: its test tells it.
 -- `resting` to `beyond-fits`: how the phase alone decides. `work-none`: where hand, goal and mark are not asked about.
 -- Assumes nothing.
 use Prim.Native.Nat.{suc, _≤_, _<_}

@@ -4,9 +4,8 @@
 use rules::Shape;
 use rules::Task;
 use rules::Turn;
-ghost use Prim.Native.Nat.{_≤_};
 ghost use Rattle.rules.specs.Step.{ofPhase};
-ghost use Rattle.tasks.specs.Ready.{Ready};
+ghost use Rattle.tasks.specs.Ready.{Among};
 ghost use Rattle.tasks.specs.Taken.{Follows};
 
 // A record in phases 1 to 12.
@@ -14,7 +13,7 @@ pub struct Busy(pub Task);
 
 impl Busy {
     fn seek(self, sh: Shape, table: &mut [u8]) -> Turn
-        requires { ⌜ Ready (self .0 .phase) sh (now table) (self .0) ⌝ ∗ ⌜ 1 ≤ self .0 .phase ⌝ ∗ ⌜ self .0 .phase ≤ 6 ⌝ }
+        requires { ⌜ Among 1 6 sh (now table) (self .0) ⌝ }
         ensures { λ turn. ⌜ Follows ofPhase sh (self .0) (now (table .entry)) turn (now (table .exit)) ⌝ }
     {
         let phase = self.0.phase;
@@ -29,7 +28,7 @@ impl Busy {
     }
 
     fn settle(self, sh: Shape, table: &mut [u8]) -> Turn
-        requires { ⌜ Ready (self .0 .phase) sh (now table) (self .0) ⌝ ∗ ⌜ 7 ≤ self .0 .phase ⌝ ∗ ⌜ self .0 .phase ≤ 12 ⌝ }
+        requires { ⌜ Among 7 12 sh (now table) (self .0) ⌝ }
         ensures { λ turn. ⌜ Follows ofPhase sh (self .0) (now (table .entry)) turn (now (table .exit)) ⌝ }
     {
         let phase = self.0.phase;
@@ -44,7 +43,7 @@ impl Busy {
     }
 
     pub fn act(self, sh: Shape, table: &mut [u8]) -> Turn
-        requires { ⌜ Ready (self .0 .phase) sh (now table) (self .0) ⌝ ∗ ⌜ 1 ≤ self .0 .phase ⌝ ∗ ⌜ self .0 .phase ≤ 12 ⌝ }
+        requires { ⌜ Among 1 12 sh (now table) (self .0) ⌝ }
         ensures { λ turn. ⌜ Follows ofPhase sh (self .0) (now (table .entry)) turn (now (table .exit)) ⌝ }
     {
         let phase = self.0.phase;

@@ -18,8 +18,7 @@ ghost use lib.ListN.{length};
 ghost use Rattle.rules.specs.Bytes.{wordsOf};
 ghost use Rattle.rules.specs.Shape.{places};
 ghost use Rattle.rules.specs.Table.{guardsVoid};
-ghost use Rattle.rules.specs.Record as spec;
-ghost use Rattle.rules.specs.Record.{atRest};
+ghost use Rattle.rules.specs.Record.{atRest, fits as fit};
 ghost use Rattle.rules.specs.Step.{stepOf};
 ghost use Rattle.words.specs.Range.{InRange};
 ghost use Rattle.tasks.specs.Stepping.{stepSays, leftAfter, stepOne};
@@ -37,7 +36,7 @@ fn guards_void(sh: Shape, table: &[u8]) -> bool
 
 // On a busy record that fits: 6 by the guards or by the phase.
 fn busy_step(sh: Shape, table: &mut [u8], t: Task) -> Turn
-    requires { ⌜ InRange sh ⌝ ∗ ⌜ length (now table) ≡ 2 * places sh ⌝ ∗ ⌜ spec.fits sh t ≡ true ⌝ ∗ ⌜ atRest t ≡ false ⌝ }
+    requires { ⌜ InRange sh ⌝ ∗ ⌜ length (now table) ≡ 2 * places sh ⌝ ∗ ⌜ fit sh t ≡ true ⌝ ∗ ⌜ atRest t ≡ false ⌝ }
     ensures { λ turn. ⌜ stepSays t turn (now (table .exit))
         ≡ leftAfter (now (table .entry)) t (stepOf sh (wordsOf (now (table .entry))) t) ⌝ }
 {

@@ -17,16 +17,19 @@ act-requires : tie.Need-act-requires
 act-requires c κs =
     let start = c .before .before .before .before .before in
     let (range, (size, (fits, awake))) = start .pre in
-    let (low, high) = fitting-phase (start .args .sh) (start .args .t) fits awake in (
-      record {
-        range = range;
-        size = size;
-        guards = sym (c .before .before .guards-void .ensures) ∙ c .before .if1 .taken;
-        phase = refl;
-        fits = fitting (start .args .sh) (start .args .t) fits awake;
-      },
-      (low, high),
-    )
+    let (low, high) = fitting-phase (start .args .sh) (start .args .t) fits awake in
+    record {
+      ready =
+          record {
+            range = range;
+            size = size;
+            guards = sym (c .before .before .guards-void .ensures) ∙ c .before .if1 .taken;
+            phase = refl;
+            fits = fitting (start .args .sh) (start .args .t) fits awake;
+          };
+      low = low;
+      high = high;
+    }
 
 same-length : tie.Need-same-length
 same-length c = search needs

@@ -14,7 +14,7 @@ settle-requires : tie.Need-settle-requires
 settle-requires c κs =
     let start = c .before .before .before in
     let low : 7 ≤ start .args .self .0 .phase = ⊎-elim (λ w. omega arith) (λ w. omega arith) (c .before .if1 .came) in
-    (start .pre .0, (low, start .pre .1 .1))
+    record { ready = start .pre .ready; low = low; high = start .pre .high }
 
 same-length : tie.Need-same-length
 same-length c = search needs

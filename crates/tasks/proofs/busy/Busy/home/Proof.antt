@@ -67,9 +67,10 @@ returns-2 c =
     let tested = c .before .before .before .before .before .before .before in
     let unlocked = tested .before .before in
     let word = home-word (unlocked .before) in
+    let place = unlocked .before .before .before .home-place .ensures in
     rw (tells (λ w. w .lock) (unlocked .lock .ensures) word (tested .before .if1 .left))
     (rw (tells isZero (tested .is-zero .ensures) word (c .before .before .before .before .before .before .if2 .taken))
-    (rw (← c .before .before .before .before .before .before .before .before .before .before .before .before .home-place .ensures, ← c .before .before .before .before .before .remainder-of .ensures)
+    (rw (← place, ← c .before .before .before .before .before .remainder-of .ensures)
     (rw (c .before .before .set-word .ensures, c .before .before .before .before .alone-word .ensures))))
 
 occupied-requires : tie.Need-occupied-requires

@@ -73,8 +73,8 @@ returns-6 c =
     let low : 6 ≤ start .args .self .0 .phase =
     above 5 (others .1)
     (above 4 (others .0 .1)
-    (above 3 (others .0 .0 .1) (above 2 (others .0 .0 .0 .1) (above 1 (others .0 .0 .0 .0 .1) (start .pre .1 .0))))) in
-    c .before .before .back-off .ensures ∙ ap (takes _) (sym (phase-6 _ _ _ (le-antisymm (start .pre .1 .1) low)))
+    (above 3 (others .0 .0 .1) (above 2 (others .0 .0 .0 .1) (above 1 (others .0 .0 .0 .0 .1) (start .pre .low))))) in
+    c .before .before .back-off .ensures ∙ ap (takes _) (sym (phase-6 _ _ _ (le-antisymm (start .pre .high) low)))
 
 pub seek-spec : {M : Type 1} → statement M
 seek-spec =

@@ -75,8 +75,8 @@ returns-6 c =
     let low : 12 ≤ start .args .self .0 .phase =
     above 11 (others .1)
     (above 10 (others .0 .1)
-    (above 9 (others .0 .0 .1) (above 8 (others .0 .0 .0 .1) (above 7 (others .0 .0 .0 .0 .1) (start .pre .1 .0))))) in
-    c .before .before .free-right .ensures ∙ ap (takes _) (sym (phase-12 _ _ _ (le-antisymm (start .pre .1 .1) low)))
+    (above 9 (others .0 .0 .1) (above 8 (others .0 .0 .0 .1) (above 7 (others .0 .0 .0 .0 .1) (start .pre .low))))) in
+    c .before .before .free-right .ensures ∙ ap (takes _) (sym (phase-12 _ _ _ (le-antisymm (start .pre .high) low)))
 
 pub settle-spec : {M : Type 1} → statement M
 settle-spec =
