@@ -1,0 +1,45 @@
+-- Give on one record (01, Tasks and their steps), and a turn read as the paper's answer with the record that is left.
+-- `give-one`: the rules' give is give on the record of the task number, stored back.
+-- Assumes nothing.
+use Prim.Native.Nat.{ℕ}
+use mathlib.Core.Path.{_≡_, refl, ap, sym}
+use mathlib.Core.Bool.{Bool, true, false, cond}
+use mathlib.Core.List.{List}
+use lib.Seq.{set-getD}
+use lib.Dec.{ltb}
+use Rattle.rules.specs.declared.Task.{Task}
+use Rattle.rules.specs.declared.Turn.{Turn}
+use Rattle.rules.specs.declared.Turn.the-variants.{Next, Refused}
+use Rattle.rules.specs.Shape.{shapeOf, inRange, keys}
+use Rattle.rules.specs.Answer.{says, refuses, numberOfRefusal, Leaves, leaves}
+use Rattle.rules.specs.Give.{noTask, taskAt, goodTask, giveTo, storedAt, give}
+
+-- a turn says 0 and the record that follows, or a refusal's number and the record as it was
+abbrev pub turnSays : Task → Turn → Leaves Task
+turnSays t (Next u) = leaves (says 0) u
+turnSays t (Refused n) = leaves (refuses (numberOfRefusal n)) t
+
+-- give (m, r, key, the record)
+unfoldable pub giveOne : ℕ → ℕ → ℕ → Task → Leaves Task
+giveOne m r key t =
+    cond (inRange (shapeOf m r))
+    (cond (ltb key (keys (shapeOf m r))) (giveTo t key) (leaves (refuses 2) t))
+    (leaves (refuses 1) t)
+
+pub give-one :
+    (m r key : ℕ) (ts : List Task) (i : ℕ) →
+    goodTask ts i ≡ true → give m r key ts i ≡ storedAt ts i (giveOne m r key (taskAt ts i))
+unfolding give giveOne
+give-one m r key ts i good = rw good (go (inRange (shapeOf m r)) (ltb key (keys (shapeOf m r))))
+  where
+    go : (shape small : Bool) →
+        cond shape
+        (cond small (storedAt ts i (giveTo (taskAt ts i) key)) (leaves (refuses 2) ts))
+        (leaves (refuses 1) ts)
+        ≡ storedAt ts i
+        (cond shape
+        (cond small (giveTo (taskAt ts i) key) (leaves (refuses 2) (taskAt ts i)))
+        (leaves (refuses 1) (taskAt ts i)))
+    go true true = refl
+    go true false = ap (leaves (refuses 2)) (sym (set-getD ts i noTask))
+    go false small = ap (leaves (refuses 1)) (sym (set-getD ts i noTask))
