@@ -3,7 +3,7 @@
 -- (That every call takes arbitrary input, ends and stays inside what it was lent is what each function's own proof says.)
 -- Assumes nothing.
 use Prim.Native.Nat.{ℕ, suc, _≤_}
-use mathlib.Core.Path.{_≡_, refl, sym, ap, subst}
+use mathlib.Core.Path.{sym, subst}
 use mathlib.Core.Bool.{Bool, true, false, cond}
 use mathlib.Core.List.{List, map}
 use lib.ListN.{length, replicate, set}
@@ -20,7 +20,7 @@ use Rattle.rules.specs.Entry.{Entry, split}
 use Rattle.rules.specs.Table.{occupied, clusterEntries, list, guardsVoid, sound, locked}
 use Rattle.rules.specs.Room.{Room, place, full, roomFor}
 use Rattle.rules.specs.Lay.{holds}
-use Rattle.rules.specs.Answer.{Answer, says, refuses, Leaves, leaves}
+use Rattle.rules.specs.Answer.{says, refuses, Leaves, leaves}
 use Rattle.rules.specs.Find.{soundAround, lockedAround}
 use Rattle.rules.specs.Put.{addAt, Outcome, keeps, writes, addTo, putIn, bytesAfter, put}
 use Rattle.rules.specs.Build.{zeros, puts, tooMany, buildIn, build}

@@ -1,23 +1,21 @@
 -- How lent bytes that are a sound table, and the theory's tables, stand for each other.
 -- Assumes nothing.
-use Prim.Native.Nat.{ℕ, zero, suc, _+_, _*_, _/_, _%_, _≤_, _<_}
-use mathlib.Core.Path.{_≡_, refl, sym, ap, ap₂, _∙_, subst}
+use Prim.Native.Nat.{ℕ, zero, suc, _*_, _≤_, _<_}
+use mathlib.Core.Path.{_≡_, ap, _∙_, subst}
 use mathlib.Core.Bool.{Bool, true, false}
-use mathlib.Core.List.{List, [], _∷_, map}
+use mathlib.Core.List.{List, [], _∷_}
 use native.Mathlib.Omega.{arith}
-use native.Mathlib.Nat.{le-refl, le-trans}
 use lib.ListN.{length, getD}
 use borrow.Author.Tests.{eq-eqb}
-use Rattle.rules.specs.declared.Shape.{Shape}
-use Rattle.rules.specs.Word.{Word, zeroWord, numberOf}
+use Rattle.rules.specs.Word.{Word}
 use Rattle.rules.specs.Bytes.{wordsOf, bytesOf}
-use Rattle.rules.specs.Shape.{shapeOf, inRange, homes, remainders, keys, places, fitsLength, goodTable}
+use Rattle.rules.specs.Shape.{shapeOf, remainders, places, fitsLength, goodTable}
 use Rattle.rules.specs.Entry.{Entry}
-use Rattle.rules.specs.Table.{at, occupied, entries, list, sound, locked}
+use Rattle.rules.specs.Table.{at, occupied, entries, sound, locked}
 use Rattle.rules.specs.Lay.{lay}
 use Rattle.words.specs.Range.{InRange, good-table, range-in, remainders-high}
 use Rattle.words.specs.Number.{number-small}
-use Rattle.words.specs.Layout.{words-length, bytes-length, words-of-bytes, bytes-of-words}
+use Rattle.words.specs.Layout.{words-length, bytes-length, words-of-bytes}
 use Rattle.theory.specs.Perm as perm
 use Rattle.theory.specs.Perm.{All}
 use Rattle.theory.specs.Insert.{asc-all}

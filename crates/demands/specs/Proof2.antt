@@ -1,33 +1,31 @@
 -- The proofs of Demand2: each carries a law of the theory from words and entries to lent bytes and keys.
 -- Assumes nothing.
-use Prim.Native.Nat.{ℕ, zero, suc, _+_, _*_, _≤_, _<_}
+use Prim.Native.Nat.{ℕ, _*_, _<_}
 use mathlib.Core.Path.{_≡_, refl, sym, ap, ap₂, _∙_, subst}
-use mathlib.Core.Bool.{Bool, true, false, cond, _||_, true≢false}
-use mathlib.Core.List.{List, [], _∷_, _++_, map}
+use mathlib.Core.Bool.{Bool, true, false, _||_, true≢false}
+use mathlib.Core.List.{List, _∷_, map}
 use native.Mathlib.Omega.{arith}
-use native.Mathlib.Nat.{le-refl}
-use lib.ListN.{length, set, replicate, length-replicate}
-use lib.Dec.{eqb, ltb}
+use lib.ListN.{length}
+use lib.Dec.{eqb}
 use borrow.Author.Tests.{lt-ltb, eqb-true, eqb-false}
 use Rattle.rules.specs.declared.Shape.{Shape}
-use Rattle.rules.specs.Lists.{bitOf, all}
+use Rattle.rules.specs.Lists.{bitOf}
 use Rattle.rules.specs.Word.{Word}
 use Rattle.rules.specs.Bytes.{wordsOf, bytesOf}
-use Rattle.rules.specs.Shape.{shapeOf, homes, remainders, keys, places, rightGuard, goodTable}
+use Rattle.rules.specs.Shape.{shapeOf, remainders, keys, places}
 use Rattle.rules.specs.Entry.{Entry, split, join, sameEntry}
-use Rattle.rules.specs.Table.{occupied, entries, list, sound, locked}
-use Rattle.rules.specs.Room.{Room, place, full, roomFor}
-use Rattle.rules.specs.Lay.{holds, insert, ascend}
-use Rattle.rules.specs.Answer.{Answer, says, refuses, Leaves, leaves}
-use Rattle.rules.specs.Find.{findIn, find}
-use Rattle.rules.specs.Put.{addAt, Outcome, keeps, writes, putIn, bytesAfter, put}
+use Rattle.rules.specs.Table.{occupied, entries, list}
+use Rattle.rules.specs.Room.{place, roomFor}
+use Rattle.rules.specs.Lay.{holds, insert}
+use Rattle.rules.specs.Answer.{says, refuses, leaves}
+use Rattle.rules.specs.Find.{find}
+use Rattle.rules.specs.Put.{addAt, Outcome, writes, putIn, bytesAfter, put}
 use Rattle.words.specs.Range.{InRange, good-table}
 use Rattle.words.specs.Split.{InShape, split-in-shape, join-split, split-join}
 use Rattle.words.specs.Layout.{same-bytes}
 use Rattle.theory.specs.Perm as perm
 use Rattle.theory.specs.Perm.{All}
 use Rattle.theory.specs.Gaps.{HomePlace, AllTaken, room-full, full-room}
-use Rattle.theory.specs.Seen.{Table}
 use Rattle.theory.specs.Finding.{find-table}
 use Rattle.theory.specs.Putting.{Puts, found, inserted, overflow, put-table, table-guarded}
 use Rattle.theory.specs.Insert.{same-eq, same-refl, holds-insert}

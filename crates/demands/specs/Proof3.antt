@@ -2,38 +2,37 @@
 -- Assumes nothing.
 use Prim.Native.Nat.{ℕ, zero, suc, _+_, _*_, _≤_, _<_}
 use mathlib.Core.Path.{_≡_, refl, sym, ap, ap₂, _∙_, subst}
-use mathlib.Core.Bool.{Bool, true, false, cond, _||_, _&&_, true≢false}
+use mathlib.Core.Bool.{Bool, true, false, cond, _||_, true≢false}
 use mathlib.Core.List.{List, [], _∷_, _++_, map}
 use native.Mathlib.Omega.{arith}
-use native.Mathlib.Nat.{le-refl}
-use lib.ListN.{length, set, replicate, length-replicate}
-use lib.Dec.{eqb, ltb}
-use borrow.Author.Tests.{ltb-true, ltb-false, lt-ltb, le-ltb, eqb-true, eqb-false}
+use lib.ListN.{length, replicate, length-replicate}
+use lib.Dec.{ltb}
+use borrow.Author.Tests.{ltb-true, ltb-false, lt-ltb, le-ltb}
 use Rattle.rules.specs.declared.Shape.{Shape}
 use Rattle.rules.specs.Lists.{all, any}
 use Rattle.rules.specs.Word.{Word, zeroWord, isVoid}
 use Rattle.rules.specs.Bytes.{wordsOf, bytesOf}
 use Rattle.rules.specs.Shape.{shapeOf, homes, remainders, keys, places, rightGuard, goodTable}
-use Rattle.rules.specs.Entry.{Entry, split, join, sameEntry}
-use Rattle.rules.specs.Table.{occupied, entries, list, locked}
-use Rattle.rules.specs.Lay.{holds, insert, ascend, lay}
+use Rattle.rules.specs.Entry.{Entry, split, join}
+use Rattle.rules.specs.Table.{entries, list, locked}
+use Rattle.rules.specs.Lay.{holds, ascend, lay}
 use Rattle.rules.specs.Answer.{Answer, says, refuses, Leaves, leaves}
-use Rattle.rules.specs.Put.{layRun, addAt, Outcome, keeps, writes, putIn, wordsAfter, bytesAfter, put}
+use Rattle.rules.specs.Put.{layRun, Outcome, keeps, putIn, wordsAfter, put}
 use Rattle.rules.specs.Build.{zeros, puts, tooMany, buildIn, build}
 use Rattle.words.specs.Range.{InRange, good-table, remainders-high}
 use Rattle.words.specs.Split.{InShape, split-in-shape, split-join, join-below}
 use Rattle.words.specs.Layout.{same-bytes}
-use Rattle.theory.specs.Run.{code, Asc, none, Run}
+use Rattle.theory.specs.Run.{none}
 use Rattle.theory.specs.Dealt.{and-left, and-right, and-both, or-left, or-right}
 use Rattle.theory.specs.Perm as perm
 use Rattle.theory.specs.Perm.{All}
-use Rattle.theory.specs.Insert.{Within, asc-all, ascend-asc, ascend-same, ascend-ascending, holds-ascend, holds-append, asc-unique, held-all}
+use Rattle.theory.specs.Insert.{Within, ascend-asc, ascend-same, holds-ascend, holds-append, asc-unique, held-all}
 use Rattle.theory.specs.Seen.{Right, right-end, right-more, Table, table}
-use Rattle.theory.specs.Putting.{Puts, found, inserted, overflow, put-table}
+use Rattle.theory.specs.Putting.{Puts, found, inserted, overflow}
 use Rattle.theory.specs.Building.{Roomy, State, Inside, after-put, added-state, puts-ascend, Left, puts-state}
 use Rattle.theory.specs.Keys.{table-inside, within-in-shape, Ascending, ascending-none, ascending-next, listed}
 use Rattle.demands.specs.Terms.{PlainTable, listOf, InKeys, entriesOf, distinct, putAll, left-by, Builds}
-use Rattle.demands.specs.Lent.{in-range-of, low-of, size-of, table-of, state-of}
+use Rattle.demands.specs.Lent.{in-range-of, low-of, state-of}
 use Rattle.demands.specs.Lent.{words-back, plain-of, entries-back}
 use Rattle.demands.specs.Proof2.{split-keys, same-split, in-shape, ascending-list, listed-here, cases, put-by}
 

@@ -12,7 +12,7 @@ use Rattle.rules.specs.Bytes.{bytesOf}
 use Rattle.rules.specs.Shape.{shapeOf, keys, homes, places, goodTable}
 use Rattle.rules.specs.Entry.{Entry, split}
 use Rattle.rules.specs.Lay.{ascend}
-use Rattle.rules.specs.Answer.{Answer, says, refuses, Leaves, leaves}
+use Rattle.rules.specs.Answer.{says, refuses, Leaves, leaves}
 use Rattle.rules.specs.Put.{putIn, wordsAfter}
 
 -- the table of a shape that is all zero

@@ -1,6 +1,6 @@
 -- The examples of document 01 that are marked P, as rows of one table, and the one claim that each call gives what the paper says.
 -- Assumes nothing.
-use Prim.Native.Nat.{ℕ}
+use Prim.Native.Nat.{ℕ, _%_, _/_}
 use mathlib.Core.Path.{_≡_, refl}
 use mathlib.Core.List.{List, [], _∷_, map}
 use lib.ListN.{replicate}
@@ -14,7 +14,7 @@ use Rattle.rules.specs.Table.{deal, entriesBetween, clusterEntries, entr
 use Rattle.rules.specs.Table.{soundAt, soundFrom, guardsVoid, sound, locked}
 use Rattle.rules.specs.Room.{roomBeside, roomFor}
 use Rattle.rules.specs.Lay.{holds, insert, ascend, hasHome, endsGroup, lay}
-use Rattle.rules.specs.Answer.{Answer, says, refuses, Leaves, leaves}
+use Rattle.rules.specs.Answer.{says, refuses, Leaves, leaves}
 use Rattle.rules.specs.Find.{around, soundAround, lockedAround, findIn, find}
 use Rattle.rules.specs.Put.{layRun, enlargedFrom, addAt, putIn, put}
 use Rattle.rules.specs.Build.{zeros, puts, tooMany, buildIn, build}
@@ -25,16 +25,17 @@ pub record Row : Type 0 where
   pub call : Leaves (List ℕ)
   pub paper : Leaves (List ℕ)
 
--- a table from its words as the paper writes them
-abbrev tableOf : List ℕ → List ℕ
-tableOf ns = bytesOf (map wordOf ns)
+-- a table from its words as the paper writes them: the low byte comes first
+unfoldable pub tableOf : List ℕ → List ℕ
+tableOf [] = []
+tableOf (n ∷ ns) = n % 256 ∷ n / 256 ∷ tableOf ns
 
 -- a table full of ones, of some words: build ignores what the table held
 abbrev stale : ℕ → List ℕ
 stale n = tableOf (replicate n 0xFFFF)
 
 -- the two built tables that further rows start from
-abbrev evening : List ℕ
+abbrev pub evening : List ℕ
 evening = 0x0000 ∷ 0x0000 ∷ 0x1001 ∷ 0x1005 ∷ 0x7008 ∷ 0x700C ∷ 0x0000 ∷ 0x0000 ∷ 0x0000 ∷ 0x0000 ∷ []
 
 abbrev smallest : List ℕ
@@ -79,7 +80,7 @@ rows =
     ∷ []
 
 pub rows-hold : map (λ (row : Row). row .call) rows ≡ map (λ (row : Row). row .paper) rows
-unfolding count all any wordOf numberOf isVoid wordsOf bytesOf inRange homes remainders keys places rightGuard
+unfolding tableOf count all any wordOf numberOf isVoid wordsOf bytesOf inRange homes remainders keys places rightGuard
     fitsLength goodTable placeOfHome homeOfPlace homeOf remainderOf split join sameHome sameEntry precedes
     occupied leftGap lead rightGap cluster endsInChange rising soundRun virginPlaces deal entriesBetween
     clusterEntries entryAt entriesFrom entries list soundAt soundFrom guardsVoid sound locked roomBeside

@@ -5,10 +5,9 @@ use mathlib.Core.Bool.{Bool, cond, _&&_}
 use mathlib.Core.List.{List}
 use lib.ListN.{length, getD, set}
 use lib.Dec.{ltb, leb}
-use Rattle.rules.specs.declared.Shape.{Shape}
 use Rattle.rules.specs.declared.Task.{Task}
 use Rattle.rules.specs.Shape.{shapeOf, inRange, keys}
-use Rattle.rules.specs.Answer.{Answer, says, refuses, Leaves, leaves}
+use Rattle.rules.specs.Answer.{says, refuses, Leaves, leaves}
 use Rattle.rules.specs.Record.{busy}
 
 -- sets key and phase 1 and zeroes the rest

@@ -1,7 +1,7 @@
 -- List (01, Answers and their numbers): the whole table is checked, then the keys are written to the front of the slots.
 -- Assumes nothing.
 use Prim.Native.Nat.{ℕ}
-use mathlib.Core.Bool.{Bool, cond}
+use mathlib.Core.Bool.{cond}
 use mathlib.Core.List.{List, _++_}
 use lib.ListN.{length, drop}
 use lib.Dec.{leb}
@@ -10,7 +10,7 @@ use Rattle.rules.specs.Word.{Word}
 use Rattle.rules.specs.Bytes.{wordsOf}
 use Rattle.rules.specs.Shape.{shapeOf, goodTable}
 use Rattle.rules.specs.Table.{list, sound, locked}
-use Rattle.rules.specs.Answer.{Answer, says, refuses, Leaves, leaves}
+use Rattle.rules.specs.Answer.{says, refuses, Leaves, leaves}
 
 -- keys at the front, the remaining slots as they were
 unfoldable pub atFront : List ℕ → List ℕ → List ℕ

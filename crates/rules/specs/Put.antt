@@ -2,7 +2,7 @@
 -- over the cluster enlarged by the place that the rule names.
 -- Assumes nothing.
 use Prim.Native.Nat.{ℕ, suc, min}
-use mathlib.Core.Bool.{Bool, true, cond}
+use mathlib.Core.Bool.{true, cond}
 use mathlib.Core.List.{List}
 use lib.ListN.{length, replicate}
 use lib.Seq.{sets}

@@ -12,7 +12,7 @@ use Rattle.rules.specs.Word.{Word}
 use Rattle.rules.specs.Bytes.{wordsOf, bytesOf}
 use Rattle.rules.specs.Shape.{shapeOf, goodTable}
 use Rattle.rules.specs.Table.{guardsVoid}
-use Rattle.rules.specs.Answer.{Answer, says, refuses, Leaves, leaves}
+use Rattle.rules.specs.Answer.{says, refuses, Leaves, leaves}
 use Rattle.rules.specs.Record.{atRest, fits}
 use Rattle.rules.specs.Give.{taskAt, goodTask}
 use Rattle.rules.specs.Phase as phase

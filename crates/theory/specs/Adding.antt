@@ -4,27 +4,26 @@
 use Prim.Native.Nat.{ℕ, zero, suc, _+_, _*_, _≤_, _<_}
 use mathlib.Core.Path.{_≡_, refl, sym, ap, ap₂, _∙_, subst, subst₂}
 use mathlib.Core.Bool.{Bool, true, false, _||_, or-assoc, true≢false}
-use mathlib.Core.List.{List, [], _∷_, _++_, append-assoc, append-nil, map}
+use mathlib.Core.List.{List, [], _∷_, _++_, append-assoc}
 use native.Mathlib.Omega.{arith}
-use native.Mathlib.Nat.{le-refl, le-trans}
-use lib.ListN.{length, replicate, length-append, length-replicate, length-map, set}
-use lib.Seq.{sets, set-append-seam}
-use Rattle.rules.specs.Lists.{all, any}
-use Rattle.rules.specs.Word.{Word, isVoid}
+use native.Mathlib.Nat.{le-refl}
+use lib.ListN.{length, replicate, length-append, length-map, set}
+use lib.Seq.{set-append-seam}
+use Rattle.rules.specs.Lists.{any}
+use Rattle.rules.specs.Word.{Word}
 use Rattle.rules.specs.Entry.{Entry}
 use Rattle.rules.specs.Table.{occupied, locked}
-use Rattle.rules.specs.Lay.{holds, insert, lay, hasHome}
+use Rattle.rules.specs.Lay.{holds, insert}
 use Rattle.rules.specs.Put.{layRun}
-use Rattle.theory.specs.Run.{code, Asc, none, next, unlock, Run}
+use Rattle.theory.specs.Run.{Asc, none, Run}
 use Rattle.theory.specs.Perm as perm
-use Rattle.theory.specs.Insert.{Within, asc-weaken, asc-below, insert-asc, insert-length, insert-front, insert-back, Below}
+use Rattle.theory.specs.Insert.{asc-weaken, asc-below, insert-asc, insert-length, insert-front, insert-back}
 use Rattle.theory.specs.Joined.{map-append, run-append}
 use Rattle.theory.specs.Seen.{Right, right-end, right-more, Left, left-start, left-more, Table, whole, left-asc, right-asc}
 use Rattle.theory.specs.Seen.{AtGap, InRun}
-use Rattle.theory.specs.Pairs.{lay-run, lay-length, lay-free, lay-marks, all-occupied}
+use Rattle.theory.specs.Pairs.{lay-run, lay-free, all-occupied}
 use Rattle.theory.specs.RunLaws.{run-occupied}
 use Rattle.theory.specs.Dealt.{isOccupied}
-use Rattle.theory.specs.Places.{void-free}
 
 -- ---- a run that adjoins what lies left, or right, of a filled place
 pub left-join :

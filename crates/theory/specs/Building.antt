@@ -1,29 +1,29 @@
 -- Puts one by one: their order and their repeats do not matter, as long as there is room for all (`puts-same`), and what they leave
 -- (`puts-state`). Its heart: on tables with room, putting two keys commutes (`put-swap`) and putting one twice is putting it once.
 -- Assumes nothing.
-use Prim.Native.Nat.{ℕ, zero, suc, _+_, _*_, _≤_, _<_}
+use Prim.Native.Nat.{ℕ, suc, _≤_, _<_}
 use mathlib.Core.Path.{_≡_, refl, sym, ap, ap₂, _∙_, subst}
 use mathlib.Core.Bool.{Bool, true, false, cond, _||_, true≢false, false≢true}
-use mathlib.Core.List.{List, [], _∷_, _++_}
+use mathlib.Core.List.{List, [], _∷_}
 use native.Mathlib.Omega.{arith}
-use native.Mathlib.Nat.{le-refl, le-trans, le-of-eq}
-use lib.ListN.{length, set, length-set}
+use native.Mathlib.Nat.{le-refl, le-of-eq}
+use lib.ListN.{length, length-set}
 use Rattle.rules.specs.declared.Shape.{Shape}
 use Rattle.rules.specs.Lists.{any}
 use Rattle.rules.specs.Word.{Word}
 use Rattle.rules.specs.Entry.{Entry, sameEntry, precedes}
 use Rattle.rules.specs.Shape.{homes, remainders, places, rightGuard}
 use Rattle.rules.specs.Table.{occupied, locked}
-use Rattle.rules.specs.Room.{Room, place, full, roomFor}
+use Rattle.rules.specs.Room.{place, full, roomFor}
 use Rattle.rules.specs.Lay.{holds, insert, ascend}
-use Rattle.rules.specs.Put.{addAt, Outcome, keeps, writes, putIn, wordsAfter}
+use Rattle.rules.specs.Put.{addAt, Outcome, putIn, wordsAfter}
 use Rattle.rules.specs.Build.{puts}
 use Rattle.theory.specs.Run.{code, Asc, none, next}
 use Rattle.theory.specs.Insert.{Within, Compared, before, same, after, compared, asc-all, asc-weaken, held-all, holds-below}
 use Rattle.theory.specs.Insert.{holds-head, same-eq, same-refl, same-not, insert-asc, insert-length, holds-insert, insert-held, insert-comm, holds-ascend}
 use Rattle.theory.specs.Dealt.{or-right}
 use Rattle.theory.specs.Joined.{or-none}
-use Rattle.theory.specs.Gaps.{Guarded, HomePlace, AllTaken}
+use Rattle.theory.specs.Gaps.{HomePlace}
 use Rattle.theory.specs.Order.{fillAt, fillPlaces, fills-commute, taken, room-place}
 use Rattle.theory.specs.Seen.{Table, table, right-asc}
 use Rattle.theory.specs.Places.{occupied-length}

@@ -1,8 +1,8 @@
 -- Homes, words and entries of a sound run side by side: `Dealt hs ws es` says that dealing the homes hs to the groups of ws gives es.
 -- From the Boolean rules to `Dealt` and back; then what both directions of "a run is what laying its entries gives" need.
 -- Assumes nothing.
-use Prim.Native.Nat.{ℕ, zero, suc, _+_, _*_, _≤_, _<_}
-use mathlib.Core.Path.{_≡_, refl, sym, ap, ap₂, _∙_, subst}
+use Prim.Native.Nat.{ℕ, suc, _+_, _*_, _≤_, _<_}
+use mathlib.Core.Path.{_≡_, refl, sym, ap, ap₂, _∙_}
 use mathlib.Core.Bool.{Bool, true, false, not, _&&_, _||_, false≢true}
 use mathlib.Core.List.{List, [], _∷_, map}
 use native.Mathlib.Omega.{arith}
@@ -13,7 +13,7 @@ use borrow.Author.Tests.{ltb-true, lt-ltb, eq-eqb, ne-eqb}
 use Rattle.rules.specs.Lists.{bitOf, count, all, any}
 use Rattle.rules.specs.Word.{Word, zeroWord}
 use Rattle.rules.specs.Entry.{Entry, sameHome}
-use Rattle.rules.specs.Table.{endsInChange, rising, front, due, deal}
+use Rattle.rules.specs.Table.{endsInChange, rising, due, deal}
 use Rattle.rules.specs.Lay.{hasHome, endsGroup, lay}
 use Rattle.theory.specs.Run.{code, Asc, none, next, unlock}
 

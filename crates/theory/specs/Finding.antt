@@ -1,27 +1,25 @@
 -- What find and put look at, on a table: the surroundings of a key's home are sound, unlocked where the table is, and the cluster
 -- there has the key exactly if the table has it. Hence find on a table.
 -- Assumes nothing.
-use Prim.Native.Nat.{ℕ, zero, suc, _+_, _*_, _≤_, _<_}
+use Prim.Native.Nat.{ℕ, zero, suc, _+_, _≤_, _<_}
 use mathlib.Core.Path.{_≡_, refl, sym, ap, ap₂, _∙_, subst, subst₂}
-use mathlib.Core.Bool.{Bool, true, false, cond, _||_, _&&_, true≢false}
+use mathlib.Core.Bool.{Bool, true, false, _||_, true≢false}
 use mathlib.Core.List.{List, [], _∷_, _++_}
 use native.Mathlib.Omega.{arith}
-use native.Mathlib.Nat.{le-refl}
 use lib.ListN.{length, take, drop}
-use lib.Seq.{slice}
 use Rattle.rules.specs.declared.Shape.{Shape}
 use Rattle.rules.specs.Lists.{bitOf, all, any}
 use Rattle.rules.specs.Word.{Word, isVoid}
 use Rattle.rules.specs.Entry.{Entry}
-use Rattle.rules.specs.Shape.{homes, remainders, places, rightGuard}
+use Rattle.rules.specs.Shape.{remainders, places}
 use Rattle.rules.specs.Table.{at, occupied, leftGap, rightGap, cluster, soundRun, clusterEntries, guardsVoid, locked}
 use Rattle.rules.specs.Lay.{holds}
-use Rattle.rules.specs.Answer.{Answer, says, refuses}
+use Rattle.rules.specs.Answer.{says}
 use Rattle.rules.specs.Find.{around, soundAround, lockedAround, findIn}
-use Rattle.theory.specs.Run.{code, Asc, Run}
-use Rattle.theory.specs.Dealt.{isOccupied, and-both, and-left}
+use Rattle.theory.specs.Run.{Asc}
+use Rattle.theory.specs.Dealt.{isOccupied, and-both}
 use Rattle.theory.specs.RunLaws.{run-is-sound, run-occupied, run-entries}
-use Rattle.theory.specs.Insert.{asc-all, asc-weaken, held-all, holds-below, holds-append, Within}
+use Rattle.theory.specs.Insert.{asc-all, held-all, holds-below, holds-append}
 use Rattle.theory.specs.Joined.{or-none}
 use Rattle.theory.specs.Gaps.{HomePlace}
 use Rattle.theory.specs.Seen.{Table, table, AtGap, InRun, Located, at-gap, in-run, locate, left-asc, right-asc}

@@ -1,11 +1,11 @@
 -- Runs side by side: what laying gives for entries one after the other, and that two adjoining runs are one (`run-append`).
 -- Assumes nothing.
-use Prim.Native.Nat.{ℕ, zero, suc, _+_, _*_, _≤_, _<_}
+use Prim.Native.Nat.{ℕ, suc, _+_, _*_, _≤_, _<_}
 use mathlib.Core.Path.{_≡_, refl, sym, ap, ap₂, _∙_, subst}
 use mathlib.Core.Bool.{Bool, true, false, not, _||_, or-assoc}
 use mathlib.Core.List.{List, [], _∷_, _++_, map}
 use native.Mathlib.Omega.{arith}
-use native.Mathlib.Nat.{add-zero, le-refl, le-trans}
+use native.Mathlib.Nat.{add-zero, le-refl}
 use lib.ListN.{length, replicate, length-append, replicate-append-replicate}
 use lib.Dec.{eqb}
 use borrow.Author.Tests.{ne-eqb}
@@ -14,7 +14,7 @@ use Rattle.rules.specs.Word.{Word}
 use Rattle.rules.specs.Entry.{Entry, sameHome}
 use Rattle.rules.specs.Lay.{hasHome, endsGroup, lay}
 use Rattle.rules.specs.Put.{layRun}
-use Rattle.theory.specs.Run.{code, Asc, none, next, unlock, Run}
+use Rattle.theory.specs.Run.{Asc, none, next, unlock, Run}
 use Rattle.theory.specs.Insert.{asc-weaken, asc-append, asc-below}
 
 pub map-append : {A B : Type 0} (f : A → B) (xs ys : List A) → map f (xs ++ ys) ≡ map f xs ++ map f ys

@@ -1,22 +1,22 @@
 -- From entries back to keys: the list of a table ascends, stays below 2^w, and has a key exactly if the table holds its entry.
 -- Assumes nothing.
-use Prim.Native.Nat.{ℕ, zero, suc, _+_, _-_, _*_, _≤_, _<_}
+use Prim.Native.Nat.{ℕ, suc, _+_, _-_, _*_, _≤_, _<_}
 use mathlib.Core.Path.{_≡_, refl, sym, ap, ap₂, _∙_, subst}
 use mathlib.Core.Bool.{Bool, true, false, _||_, true≢false}
-use mathlib.Core.List.{List, [], _∷_, _++_, map}
+use mathlib.Core.List.{List, [], _∷_, map}
 use native.Mathlib.Omega.{arith}
 use native.Mathlib.Nat.{le-refl, mul-le-mul-right, suc-mul}
 use lib.ListN.{length, length-append}
 use lib.Dec.{eqb}
 use borrow.Author.Tests.{eqb-true, eqb-false, eq-eqb, ne-eqb}
 use Rattle.rules.specs.declared.Shape.{Shape}
-use Rattle.rules.specs.Lists.{all, any}
+use Rattle.rules.specs.Lists.{any}
 use Rattle.rules.specs.Word.{Word}
 use Rattle.rules.specs.Entry.{Entry, homeOfPlace, split, join, sameEntry}
 use Rattle.rules.specs.Shape.{homes, remainders, keys, places, rightGuard}
 use Rattle.rules.specs.Lay.{holds}
-use Rattle.words.specs.Split.{InShape, split-in-shape, split-join, join-split, join-below}
-use Rattle.theory.specs.Run.{code, Asc, none, next, Run}
+use Rattle.words.specs.Split.{InShape, split-join, join-split, join-below}
+use Rattle.theory.specs.Run.{code, Asc, none, next}
 use Rattle.theory.specs.Perm as perm
 use Rattle.theory.specs.Perm.{All}
 use Rattle.theory.specs.Insert.{Within, asc-all, asc-weaken, asc-append, asc-below, same-eq, same-refl}

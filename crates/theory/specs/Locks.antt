@@ -1,10 +1,10 @@
 -- Lock bits are aside: nothing that the rules say of a run or a table, nor what it shows, depends on them.
 -- Assumes nothing.
-use Prim.Native.Nat.{ℕ, zero, suc, _+_, _-_, _*_}
+use Prim.Native.Nat.{ℕ, zero, suc, _+_, _-_}
 use mathlib.Core.Path.{_≡_, refl, ap, ap₂, _∙_}
 use mathlib.Core.Bool.{Bool, not, cond, _&&_, _||_}
 use mathlib.Core.List.{List, [], _∷_, map}
-use lib.ListN.{length, getD, take, drop, List·getD-map}
+use lib.ListN.{getD, take, drop, List·getD-map}
 use lib.Dec.{ltb, eqb}
 use Rattle.rules.specs.declared.Shape.{Shape}
 use Rattle.rules.specs.Lists.{bitOf, count, all}
@@ -15,7 +15,7 @@ use Rattle.rules.specs.Table.{at, occupied, leftGap, rightGap, between, cluster
 use Rattle.rules.specs.Table.{virginPlaces, front, due, deal, entriesBetween, clusterEntries, entryAt, entriesFrom, entries}
 use Rattle.rules.specs.Table.{list, soundAt, soundFrom, sound}
 use Rattle.theory.specs.Run.{unlock}
-use Rattle.theory.specs.Dealt.{isChange, isVirgin, isOccupied, isLow}
+use Rattle.theory.specs.Dealt.{isChange, isVirgin, isLow}
 
 pub count-unlock :
     (f : Word → Bool) → ((w : Word) → f (unlock w) ≡ f w) → (ws : List Word) → count f (map unlock ws) ≡ count f ws

@@ -15,9 +15,9 @@ use Rattle.rules.specs.Lists.{count, all, any}
 use Rattle.rules.specs.Word.{Word, zeroWord, isVoid}
 use Rattle.rules.specs.Entry.{Entry}
 use Rattle.rules.specs.Table.{occupied, locked}
-use Rattle.rules.specs.Lay.{hasHome, endsGroup, lay}
+use Rattle.rules.specs.Lay.{hasHome, lay}
 use Rattle.rules.specs.Put.{layRun}
-use Rattle.theory.specs.Run.{code, Asc, none, next, unlock, Run}
+use Rattle.theory.specs.Run.{Asc, none, unlock, Run}
 use Rattle.theory.specs.Dealt.{isOccupied, and-left, and-right, word-path}
 use Rattle.theory.specs.Order.{taken}
 use Rattle.theory.specs.Insert.{asc-weaken, asc-append, asc-below}

@@ -1,24 +1,22 @@
 -- A place in a run between two unoccupied words: its gaps, its cluster and its surroundings are those that one sees.
 -- And an unoccupied place: it is its own gap on both sides, with no cluster.
 -- Assumes nothing.
-use Prim.Native.Nat.{ℕ, zero, suc, _+_, _-_, _*_, _≤_, _<_}
-use mathlib.Core.Path.{_≡_, refl, sym, ap, ap₂, _∙_, subst}
-use mathlib.Core.Logic.{_≢_}
+use Prim.Native.Nat.{ℕ, zero, suc, _+_, _-_, _<_}
+use mathlib.Core.Path.{_≡_, refl, sym, ap, ap₂, _∙_}
 use mathlib.Core.Bool.{Bool, true, false, not, _&&_}
-use mathlib.Core.List.{List, [], _∷_, _++_, append-assoc, map}
+use mathlib.Core.List.{List, [], _∷_, _++_, append-assoc}
 use native.Mathlib.Omega.{arith}
-use native.Mathlib.Nat.{le-refl, le-trans}
+use native.Mathlib.Nat.{le-refl}
 use lib.ListN.{length, getD, take, drop, length-append, length-take, drop-of-length-le, List·getD-append, List·getD-map, length-map}
 use lib.Dec.{eqb}
-use lib.Seq.{slice, getD-append-seam, getD-append-add, take-append-add, take-append-seam, drop-append-seam, slice-empty}
+use lib.Seq.{slice, getD-append-seam, getD-append-add, take-append-add, take-append-seam, drop-append-seam}
 use Rattle.rules.specs.Lists.{all}
 use Rattle.rules.specs.Word.{Word, zeroWord, isVoid}
-use Rattle.rules.specs.Entry.{Entry}
 use Rattle.rules.specs.Table.{at, occupied, leftGap, rightGap, between, cluster, virginPlaces, deal, entriesBetween}
-use Rattle.rules.specs.Table.{clusterEntries, entryAt}
+use Rattle.rules.specs.Table.{clusterEntries}
 use Rattle.rules.specs.Find.{around}
 use Rattle.theory.specs.Dealt.{isOccupied, and-left, and-right}
-use Rattle.theory.specs.Gaps.{Taken, Free, Gap, gap-only, leftGap-is, rightGap-is}
+use Rattle.theory.specs.Gaps.{Taken, Free, gap-only, leftGap-is, rightGap-is}
 use Rattle.theory.specs.Gaps as gaps
 
 pub void-free : (w : Word) → isVoid w ≡ true → w .occupied ≡ false

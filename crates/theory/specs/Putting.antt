@@ -1,25 +1,23 @@
 -- Put on an unlocked table: a shown key is found, a full table is full, and otherwise the key is added at the place that the rule
 -- names. `Puts` has the cases; `put-table` says which holds.
 -- Assumes nothing.
-use Prim.Native.Nat.{ℕ, zero, suc, _+_, _*_, _≤_, _<_, min}
+use Prim.Native.Nat.{ℕ, suc, _+_, _≤_, _<_}
 use mathlib.Core.Path.{_≡_, refl, sym, ap, ap₂, _∙_, subst, subst₂}
 use mathlib.Core.Bool.{Bool, true, false, cond, true≢false}
 use mathlib.Core.List.{List, [], _∷_, _++_, append-assoc}
 use native.Mathlib.Omega.{arith}
-use native.Mathlib.Nat.{le-refl}
-use lib.ListN.{length, getD, take, drop, set, replicate, length-append, length-replicate}
+use lib.ListN.{length, getD, drop, replicate, length-append, length-replicate}
 use lib.Seq.{sets, sets-eq, take-at, drop-at}
 use Rattle.rules.specs.declared.Shape.{Shape}
 use Rattle.rules.specs.Lists.{all}
 use Rattle.rules.specs.Word.{Word}
 use Rattle.rules.specs.Entry.{Entry}
-use Rattle.rules.specs.Shape.{homes, remainders, places, rightGuard}
+use Rattle.rules.specs.Shape.{remainders, places, rightGuard}
 use Rattle.rules.specs.Table.{at, occupied, leftGap, rightGap, clusterEntries, locked}
 use Rattle.rules.specs.Room.{Room, place, full, roomFor}
 use Rattle.rules.specs.Lay.{holds, insert}
-use Rattle.rules.specs.Answer.{Answer, says, refuses}
+use Rattle.rules.specs.Answer.{says, refuses}
 use Rattle.rules.specs.Put.{layRun, enlargedFrom, addAt, Outcome, keeps, writes, addTo, putIn}
-use Rattle.theory.specs.Run.{Run}
 use Rattle.theory.specs.Dealt.{isOccupied}
 use Rattle.theory.specs.RunLaws.{run-occupied, run-entries}
 use Rattle.theory.specs.Insert.{insert-length}
@@ -28,7 +26,7 @@ use Rattle.theory.specs.SoundTable.{table-guards}
 use Rattle.theory.specs.Gaps.{Free, Taken, Guarded, HomePlace, Chosen, room-chosen}
 use Rattle.theory.specs.Gaps as gaps
 use Rattle.theory.specs.Seen.{Table, AtGap, InRun, Located, at-gap, in-run, locate}
-use Rattle.theory.specs.Places.{void-free, occupied-at, at-seam, gap-left, gap-right, gap-entries}
+use Rattle.theory.specs.Places.{void-free, occupied-at, at-seam, gap-left, gap-entries}
 use Rattle.theory.specs.Places.{run-taken, run-left, run-right, run-cluster-entries}
 use Rattle.theory.specs.Cut.{void-guarded}
 use Rattle.theory.specs.Finding.{origin, Surroundings, surroundings, around-free}

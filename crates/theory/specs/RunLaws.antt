@@ -7,7 +7,6 @@ use mathlib.Core.Bool.{Bool, true, false, not, cond, _&&_, _||_}
 use mathlib.Core.List.{List, [], _∷_, map}
 use native.Mathlib.Omega.{arith}
 use native.Mathlib.Nat.{add-zero, le-refl, le-trans}
-use native.Mathlib.Decide.{decLt}
 use lib.ListN.{length, getD, replicate}
 use lib.Dec.{eqb}
 use borrow.Author.Tests.{eqb-true, eq-eqb, ne-eqb, eqb-false}
@@ -16,11 +15,11 @@ use Rattle.rules.specs.Lists.{bitOf, count, all, any}
 use Rattle.rules.specs.Word.{Word, zeroWord}
 use Rattle.rules.specs.Entry.{Entry, sameHome}
 use Rattle.rules.specs.Shape.{remainders}
-use Rattle.rules.specs.Table.{endsInChange, rising, soundRun, virginPlaces, deal}
+use Rattle.rules.specs.Table.{endsInChange, soundRun, virginPlaces, deal}
 use Rattle.rules.specs.Lay.{hasHome, endsGroup, lay}
 use Rattle.rules.specs.Put.{layRun}
-use Rattle.theory.specs.Run.{code, Asc, none, next, unlock, Run}
-use Rattle.theory.specs.Dealt.{isChange, isVirgin, isOccupied, isLow, and-left, and-right, and-both, Virgins, Least}
+use Rattle.theory.specs.Run.{Asc, none, next, unlock, Run}
+use Rattle.theory.specs.Dealt.{isChange, isVirgin, isOccupied, isLow, and-left, and-right, and-both, Least}
 use Rattle.theory.specs.Dealt.{Dealt, dealt-none, dealt-ends, dealt-goes, dealt, dealt-deal, dealt-count, dealt-size}
 use Rattle.theory.specs.Dealt.{dealt-ends-in-change, dealt-low, dealt-rising, dealt-homes, dealt-asc, dealt-lay, among}
 use Rattle.theory.specs.Dealt.{Rising, rising-none, rising-next}

@@ -1,18 +1,18 @@
 -- A sound table as runs between void words: `Table`. Seen from a gap it is what lies left of it and what lies right of it, `Left` and
 -- `Right`; `whole` puts the two together again, and `locate` looks at a table from the gap or the run at a place.
 -- Assumes nothing.
-use Prim.Native.Nat.{ℕ, zero, suc, _+_, _*_, _≤_, _<_}
-use mathlib.Core.Path.{_≡_, refl, sym, ap, ap₂, _∙_, subst, subst₂}
+use Prim.Native.Nat.{ℕ, suc, _+_, _*_, _≤_, _<_}
+use mathlib.Core.Path.{_≡_, refl, sym, ap, _∙_, subst, subst₂}
 use mathlib.Core.Bool.{Bool, true, false}
 use mathlib.Core.List.{List, [], _∷_, _++_, append-assoc}
 use native.Mathlib.Omega.{arith}
-use native.Mathlib.Nat.{le-refl, le-trans}
+use native.Mathlib.Nat.{le-refl}
 use lib.ListN.{length, length-append}
 use lib.Dec.{ltb, eqb}
 use borrow.Author.Tests.{ltb-true, ltb-false, eqb-true, eqb-false}
 use Rattle.rules.specs.Word.{Word, isVoid}
 use Rattle.rules.specs.Entry.{Entry}
-use Rattle.theory.specs.Run.{code, Asc, none, next, unlock, Run}
+use Rattle.theory.specs.Run.{Asc, none, Run}
 use Rattle.theory.specs.Insert.{asc-weaken, asc-append, asc-below}
 
 -- the words right of a gap, from place p on, and their entries

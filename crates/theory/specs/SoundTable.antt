@@ -1,11 +1,11 @@
 -- The paper's by-place soundness and list are those of runs between void words: `sound-is-table`, `table-is-sound`, `table-entries`.
 -- Assumes nothing.
-use Prim.Native.Nat.{ℕ, zero, suc, _+_, _-_, _*_, _≤_, _<_}
+use Prim.Native.Nat.{ℕ, zero, suc, _+_, _-_, _≤_, _<_}
 use mathlib.Core.Path.{_≡_, refl, sym, ap, ap₂, _∙_, subst}
-use mathlib.Core.Bool.{Bool, true, false, not, cond, _&&_, and-assoc, true≢false}
-use mathlib.Core.List.{List, [], _∷_, _++_, append-assoc, append-nil}
+use mathlib.Core.Bool.{Bool, true, false, not, cond, _&&_, and-assoc}
+use mathlib.Core.List.{List, [], _∷_, _++_, append-assoc}
 use native.Mathlib.Omega.{arith}
-use native.Mathlib.Nat.{le-refl, add-zero}
+use native.Mathlib.Nat.{add-zero}
 use lib.ListN.{length, getD, drop, length-append, drop-of-length-le}
 use lib.Seq.{drop-cons, getD-append-add}
 use Rattle.rules.specs.declared.Shape.{Shape}
@@ -13,13 +13,13 @@ use Rattle.rules.specs.Lists.{count, all}
 use Rattle.rules.specs.Word.{Word, zeroWord, isVoid}
 use Rattle.rules.specs.Entry.{Entry}
 use Rattle.rules.specs.Shape.{homes, remainders, places, rightGuard}
-use Rattle.rules.specs.Table.{at, occupied, leftGap, cluster, endsInChange, rising, soundRun, virginPlaces, deal, entryAt}
+use Rattle.rules.specs.Table.{at, occupied, cluster, endsInChange, rising, soundRun, virginPlaces, deal, entryAt}
 use Rattle.rules.specs.Table.{entriesFrom, entries, soundAt, soundFrom, guardsVoid, sound}
-use Rattle.theory.specs.Run.{Asc, Run, unlock}
+use Rattle.theory.specs.Run.{Run}
 use Rattle.theory.specs.Dealt.{isOccupied, and-left, and-right, and-both}
 use Rattle.theory.specs.RunLaws.{sound-is-run, run-is-sound, run-occupied, run-entries}
 use Rattle.theory.specs.Seen.{Right, right-end, right-more, Table, table}
-use Rattle.theory.specs.Places.{void-free, at-seam, run-left, run-cluster, run-cluster-entries}
+use Rattle.theory.specs.Places.{void-free, run-left, run-cluster, run-cluster-entries}
 
 -- ---- words one after the other
 sound-append :

@@ -1,9 +1,8 @@
 -- What a task that holds both its ends sees: between them lies the cluster of its home, as it is laid.
 -- Assumes nothing.
-use Prim.Native.Nat.{ℕ, suc, _+_, _-_, _≤_, _<_}
-use mathlib.Core.Path.{_≡_, refl, sym, ap, ap₂, _∙_, subst}
-use mathlib.Core.Logic.{_⊎_, _≢_, inl, inr}
-use mathlib.Core.Bool.{Bool, true, false, true≢false}
+use Prim.Native.Nat.{ℕ, suc, _-_, _≤_, _<_}
+use mathlib.Core.Path.{_≡_, sym, ap, ap₂, _∙_, subst}
+use mathlib.Core.Bool.{Bool, true}
 use mathlib.Core.List.{List, map}
 use native.Mathlib.Omega.{arith}
 use lib.ListN.{length, length-map}
@@ -11,7 +10,7 @@ use Rattle.rules.specs.declared.Shape.{Shape}
 use Rattle.rules.specs.declared.Task.{Task}
 use Rattle.rules.specs.Lists.{all}
 use Rattle.rules.specs.Word.{Word, lockWord}
-use Rattle.rules.specs.Shape.{homes, remainders, keys, places, rightGuard}
+use Rattle.rules.specs.Shape.{remainders, keys, places, rightGuard}
 use Rattle.rules.specs.Entry.{Entry, split}
 use Rattle.rules.specs.Table.{at, occupied, leftGap, rightGap, between, cluster, soundRun, virginPlaces, deal, entriesBetween}
 use Rattle.rules.specs.Table.{clusterEntries}
@@ -20,7 +19,7 @@ use Rattle.rules.specs.Record.{homePlace}
 use Rattle.rules.specs.Give.{taskAt}
 use Rattle.words.specs.Split.{split-in-shape}
 use Rattle.theory.specs.Run.{unlock}
-use Rattle.theory.specs.Dealt.{isOccupied, and-right}
+use Rattle.theory.specs.Dealt.{isOccupied}
 use Rattle.theory.specs.Locks.{between-unlock, sound-run-unlock, virgin-unlock, deal-unlock}
 use Rattle.theory.specs.Gaps as gaps
 use Rattle.theory.specs.Gaps.{HomePlace, leftGap-is, rightGap-is, gap-only}
@@ -28,9 +27,8 @@ use Rattle.theory.specs.Places.{occupied-at}
 use Rattle.theory.specs.Cut.{between-occupied}
 use Rattle.theory.specs.Finding.{Surroundings, surroundings}
 use Rattle.theory.specs.Moving.{sound-around}
-use Rattle.theory.specs.Building.{State}
-use Rattle.together.specs.Frames.{Within, at-unlocked, occupied-same}
-use Rattle.together.specs.Invariant.{Occupied, Looked, Inv}
+use Rattle.together.specs.Frames.{at-unlocked, occupied-same}
+use Rattle.together.specs.Invariant.{Looked, Inv}
 use Rattle.together.specs.Stable.{between-same}
 use Rattle.together.specs.Facts.{between-taken, words-size, guards-free, reserved-laid}
 

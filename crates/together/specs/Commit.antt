@@ -1,13 +1,13 @@
 -- The two steps that put a key: the fill of an empty home (phase 1) and the fill at the hand (phase 8). Each is put into the table laid.
 -- Assumes nothing.
 use Prim.Native.Nat.{ℕ, zero, suc, _+_, _-_, _≤_, _<_}
-use mathlib.Core.Path.{_≡_, refl, sym, ap, ap₂, _∙_, subst, subst₂}
+use mathlib.Core.Path.{_≡_, refl, sym, ap, ap₂, _∙_, subst}
 use mathlib.Core.Logic.{_⊎_, _≢_, inl, inr}
-use mathlib.Core.Bool.{Bool, true, false, cond, _||_, true≢false, false≢true}
-use mathlib.Core.List.{List, [], _∷_, map}
+use mathlib.Core.Bool.{Bool, true, false, cond, _||_, true≢false}
+use mathlib.Core.List.{List, [], _∷_}
 use native.Mathlib.Omega.{arith}
 use native.Mathlib.Nat.{le-refl}
-use lib.ListN.{length, getD, take, set, length-set, length-take, drop-of-length-le}
+use lib.ListN.{length, take, set, length-set, length-take, drop-of-length-le}
 use lib.Dec.{eqb}
 use borrow.Author.Tests.{eqb-true, eqb-false}
 use Rattle.rules.specs.declared.Shape.{Shape}
@@ -17,9 +17,9 @@ use Rattle.rules.specs.Word.{Word, zeroWord, lockWord, withRemainder, isVoid, i
 use Rattle.rules.specs.Shape.{homes, remainders, keys, places, rightGuard}
 use Rattle.rules.specs.Entry.{Entry, split, sameEntry}
 use Rattle.rules.specs.Table.{at, occupied, leftGap, rightGap, between, virginPlaces, deal, entriesBetween, clusterEntries}
-use Rattle.rules.specs.Room.{Room, place, full, roomFor}
+use Rattle.rules.specs.Room.{place, full, roomFor}
 use Rattle.rules.specs.Lay.{holds, insert}
-use Rattle.rules.specs.Put.{addAt, enlargedFrom, Outcome, keeps, writes, putIn, wordsAfter}
+use Rattle.rules.specs.Put.{addAt, enlargedFrom, Outcome, keeps, putIn, wordsAfter}
 use Rattle.rules.specs.Record.{homePlace, toPhase, withLeft, withAnswer}
 use Rattle.rules.specs.Give.{taskAt}
 use Rattle.rules.specs.Phase as phase
@@ -30,25 +30,24 @@ use Rattle.theory.specs.Dealt.{or-left, or-right}
 use Rattle.theory.specs.Insert.{same-eq, same-refl, holds-insert}
 use Rattle.theory.specs.Gaps as gaps
 use Rattle.theory.specs.Gaps.{Side, HomePlace, other, leftGap-is, rightGap-is, gap-only, room-left, chosen-only}
-use Rattle.theory.specs.Cut.{end, from, upTo}
+use Rattle.theory.specs.Cut.{end, from}
 use Rattle.theory.specs.Places.{occupied-at}
 use Rattle.theory.specs.Motion.{fillAt, finish}
 use Rattle.theory.specs.Region.{fillAt-occupied, fillAt-locks}
 use Rattle.theory.specs.Pairs.{unlocked-same}
 use Rattle.theory.specs.Finding.{Surroundings, surroundings, around-free}
-use Rattle.theory.specs.Adding.{Added}
 use Rattle.theory.specs.Putting.{Puts, found, inserted, overflow, put-table, table-guarded}
 use Rattle.theory.specs.Moving.{Addable, add-end, begins-from, room-alone, add-alone}
 use Rattle.theory.specs.Building.{State, after-put, added-state, place≢full}
 use Rattle.together.specs.Frames.{Within, at-set, at-other, at-unlocked, finish-before, finish-after, locks-at, occupied-same}
 use Rattle.together.specs.Invariant.{Occupied, Looked, Fills, Ready, Moving, Owns, by-left, by-right, Reserves, Apart, Unfinished}
-use Rattle.together.specs.Invariant.{Inv, Stage, at-rest, has-read, moving, marking}
+use Rattle.together.specs.Invariant.{Inv, Stage, at-rest, moving, marking}
 use Rattle.together.specs.Stable.{Frame, LetsAlone, stage-stable, finish-same, from-ge, upTo-le, fills-as}
 use Rattle.together.specs.Update.{Steps, same-or-not}
 use Rattle.together.specs.Facts.{in-order, words-size, reserved-laid}
 use Rattle.together.specs.Fitting.{Named, ready-named}
 use Rattle.together.specs.Quiet.{owned-locked, apart-less}
-use Rattle.together.specs.Stretch.{own-end, stretch-alone, within?}
+use Rattle.together.specs.Stretch.{own-end, stretch-alone}
 use Rattle.together.specs.Around.{Around, around}
 use Rattle.together.specs.Walk as walk
 use Rattle.together.specs.Walk.{Walked, commits, weight-low, step-by, in-table, looked-as, says-shown}

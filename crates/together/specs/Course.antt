@@ -1,21 +1,20 @@
 -- Every step of a busy task under the invariant: it is not refused, and keeps the invariant (`walk`).
 -- Assumes nothing.
-use Prim.Native.Nat.{ℕ, suc, _≤_, _<_}
-use mathlib.Core.Path.{_≡_, refl, sym, ap, _∙_}
-use mathlib.Core.Logic.{_⊎_, _≢_, inl, inr}
-use mathlib.Core.Bool.{Bool, true, false, not, _&&_, true≢false}
+use Prim.Native.Nat.{ℕ, _≤_, _<_}
+use mathlib.Core.Path.{_≡_, refl}
+use mathlib.Core.Logic.{_⊎_, inl, inr}
+use mathlib.Core.Bool.{Bool, true, false}
 use mathlib.Core.List.{List}
 use native.Mathlib.Omega.{arith}
 use lib.ListN.{length}
 use Rattle.rules.specs.declared.Shape.{Shape}
 use Rattle.rules.specs.declared.Task.{Task}
-use Rattle.rules.specs.Word.{Word, zeroWord, lockWord, isZero}
+use Rattle.rules.specs.Word.{Word, lockWord, isZero}
 use Rattle.rules.specs.Shape.{remainders, keys}
-use Rattle.rules.specs.Entry.{Entry, split}
+use Rattle.rules.specs.Entry.{Entry}
 use Rattle.rules.specs.Table.{at}
 use Rattle.rules.specs.Record.{homePlace}
 use Rattle.rules.specs.Give.{taskAt}
-use Rattle.theory.specs.Run.{unlock}
 use Rattle.together.specs.Invariant.{Looked, LookedLeft, Inv, Stage, at-rest, at-home, looks-left, looks-right, owns-left}
 use Rattle.together.specs.Invariant.{owns-both, has-read, moving, marking, frees-left, frees-right}
 use Rattle.together.specs.Stable.{word-of}

@@ -1,35 +1,35 @@
 -- What the invariant tells of the words: an unoccupied word is 0 or exactly the lock bit, the guards are void, the stretch that a task
 -- reserves has the words laid; and of the records: each fits.
 -- Assumes nothing.
-use Prim.Native.Nat.{ℕ, zero, suc, _+_, _≤_, _<_}
-use mathlib.Core.Path.{_≡_, refl, sym, ap, ap₂, _∙_, subst}
+use Prim.Native.Nat.{ℕ, zero, suc, _≤_, _<_}
+use mathlib.Core.Path.{_≡_, refl, sym, ap, _∙_, subst}
 use mathlib.Core.Logic.{_⊎_, _≢_, inl, inr}
-use mathlib.Core.Bool.{Bool, true, false, not, cond, _&&_, _||_, true≢false, false≢true}
-use mathlib.Core.List.{List, [], _∷_, map}
+use mathlib.Core.Bool.{Bool, true, false, not, _||_, true≢false}
+use mathlib.Core.List.{List, [], _∷_}
 use native.Mathlib.Omega.{arith}
 use lib.ListN.{length, getD}
-use lib.Dec.{leb, ltb, eqb}
-use borrow.Author.Tests.{leb-true, leb-false, ltb-true, eqb-true, eqb-false, le-leb, lt-leb, lt-ltb, eq-eqb, ne-eqb}
+use lib.Dec.{leb, eqb}
+use borrow.Author.Tests.{leb-true, leb-false, eqb-true, le-leb, lt-ltb, eq-eqb, ne-eqb}
 use Rattle.rules.specs.declared.Shape.{Shape}
 use Rattle.rules.specs.declared.Task.{Task}
-use Rattle.rules.specs.Word.{Word, zeroWord, lockWord, isVoid, isZero, isLock}
+use Rattle.rules.specs.Word.{Word, zeroWord, lockWord, isVoid}
 use Rattle.rules.specs.Shape.{homes, remainders, keys, places, rightGuard}
-use Rattle.rules.specs.Entry.{Entry, split}
+use Rattle.rules.specs.Entry.{Entry}
 use Rattle.rules.specs.Table.{at, occupied, guardsVoid}
-use Rattle.rules.specs.Lay.{lay, holds}
+use Rattle.rules.specs.Lay.{lay}
 use Rattle.rules.specs.Record.{homePlace, within, implies, busy, atRest, fitsHand, fitsBusy, fits}
 use Rattle.rules.specs.Give.{taskAt}
 use Rattle.theory.specs.Run.{unlock}
 use Rattle.theory.specs.Dealt.{and-both, or-left, or-right, and-left, and-right}
 use Rattle.theory.specs.Gaps as gaps
 use Rattle.theory.specs.Gaps.{Side, Guarded, other}
-use Rattle.theory.specs.Cut.{end, from, upTo}
+use Rattle.theory.specs.Cut.{end}
 use Rattle.theory.specs.Places.{occupied-at, occupied-length}
 use Rattle.theory.specs.Pairs.{table-lay, unlocked-same}
 use Rattle.theory.specs.Putting.{table-guarded}
 use Rattle.theory.specs.Building.{State}
 use Rattle.together.specs.Frames.{Within, occupied-same}
-use Rattle.together.specs.Invariant.{Occupied, LookedLeft, Looked, Fills, FilledEnd, Ready, Moving, Owns, Reserves, Apart}
+use Rattle.together.specs.Invariant.{Occupied, Looked, Moving}
 use Rattle.together.specs.Invariant.{Stage, at-rest, at-home, looks-left, looks-right, owns-left, owns-both, has-read}
 use Rattle.together.specs.Invariant.{moving, marking, frees-left, frees-right, Unfinished, Inv}
 use Rattle.together.specs.Update.{same-or-not}

@@ -1,9 +1,9 @@
 -- Phases 9 to 12 under the invariant: the moves, the mark, and the release of both ends. The table laid stays as it is.
 -- Assumes nothing.
-use Prim.Native.Nat.{ℕ, suc, _+_, _-_, _≤_, _<_}
+use Prim.Native.Nat.{ℕ, _-_, _≤_, _<_}
 use mathlib.Core.Path.{_≡_, refl, sym, ap, ap₂, _∙_, subst}
 use mathlib.Core.Logic.{_⊎_, _≢_, inl, inr}
-use mathlib.Core.Bool.{Bool, true, false, cond, _&&_, _||_, true≢false, false≢true}
+use mathlib.Core.Bool.{Bool, true, false, cond, _&&_, _||_, false≢true}
 use mathlib.Core.List.{List}
 use native.Mathlib.Omega.{arith}
 use lib.ListN.{length, set, length-set}
@@ -12,11 +12,10 @@ use borrow.Author.Tests.{eqb-true, eqb-false, le-leb, lt-leb}
 use Rattle.rules.specs.declared.Shape.{Shape}
 use Rattle.rules.specs.declared.Task.{Task}
 use Rattle.rules.specs.Lists.{bitOf}
-use Rattle.rules.specs.Word.{Word, zeroWord, lockWord, withLock, withPayload}
-use Rattle.rules.specs.Shape.{homes, remainders, keys, rightGuard}
-use Rattle.rules.specs.Entry.{Entry, split}
+use Rattle.rules.specs.Word.{Word, lockWord, withPayload}
+use Rattle.rules.specs.Shape.{remainders, keys}
+use Rattle.rules.specs.Entry.{Entry}
 use Rattle.rules.specs.Table.{at, occupied}
-use Rattle.rules.specs.Lay.{holds}
 use Rattle.rules.specs.Record.{homePlace, toPhase, withHand, withAnswer}
 use Rattle.rules.specs.Give.{taskAt}
 use Rattle.rules.specs.Phase as phase
@@ -29,15 +28,15 @@ use Rattle.theory.specs.Motion.{toward, finish, Heads, rightward, leftward, hea
 use Rattle.theory.specs.Region.{finish-locks, finish-occupied, length-locks}
 use Rattle.demands.specs.Lent.{table-small}
 use Rattle.together.specs.Frames.{Within, at-set, at-other, finish-before, finish-after, locks-at, occupied-same, occupied-by}
-use Rattle.together.specs.Invariant.{Occupied, Looked, Fills, FilledEnd, Moving, Owns, by-left, by-right, Reserves, Apart, Unfinished}
+use Rattle.together.specs.Invariant.{Occupied, Looked, Moving, Owns, by-left, by-right, Reserves, Unfinished}
 use Rattle.together.specs.Invariant.{Inv, Ends, ends-found, ends-full, ends-inserted, RightEnd, right-found, right-full}
 use Rattle.together.specs.Invariant.{right-waiting, right-filled, Stage, at-rest, moving, marking, frees-left, frees-right}
 use Rattle.together.specs.Stable.{word-of, from-ge, upTo-le, fills-as}
-use Rattle.together.specs.Update.{Steps, same-or-not}
+use Rattle.together.specs.Update.{same-or-not}
 use Rattle.together.specs.Facts.{in-order, between-taken, plain-void}
 use Rattle.together.specs.Quiet.{apart-less, relocked, relocked-other, relock, relock-looked}
 use Rattle.together.specs.Stretch.{inside-stretch, within?}
-use Rattle.together.specs.Walk.{Walked, Effect, keeps, weight, weight-moving, step-by, in-table, looked-as, Answered, says-full, says-shown}
+use Rattle.together.specs.Walk.{Walked, keeps, weight, weight-moving, step-by, in-table, looked-as, Answered, says-full, says-shown}
 
 -- ---- an exchange, place by place: payloads change hands, a place's own bits stay
 record Exchanged (ws : List Word) (p q x : ℕ) : Type 0 where

@@ -1,7 +1,7 @@
 -- Each record that the invariant allows fits (01, "A record fits if .."), so no step is refused for it: `stage-fits`.
 -- Assumes nothing.
-use Prim.Native.Nat.{ℕ, zero, suc, _+_, _-_, _≤_, _<_}
-use mathlib.Core.Path.{_≡_, refl, sym, ap, _∙_, subst}
+use Prim.Native.Nat.{ℕ, suc, _+_, _-_, _≤_, _<_}
+use mathlib.Core.Path.{_≡_, refl, sym, ap, _∙_}
 use mathlib.Core.Logic.{_⊎_, _≢_, inl, inr}
 use mathlib.Core.Bool.{Bool, true, false, not, cond, _||_}
 use mathlib.Core.List.{List, [], _∷_}
@@ -14,17 +14,17 @@ use Rattle.rules.specs.declared.Shape.{Shape}
 use Rattle.rules.specs.declared.Task.{Task}
 use Rattle.rules.specs.Lists.{bitOf, count, all, any}
 use Rattle.rules.specs.Word.{Word}
-use Rattle.rules.specs.Shape.{homes, keys, places, rightGuard}
+use Rattle.rules.specs.Shape.{keys, places, rightGuard}
 use Rattle.rules.specs.Entry.{Entry, split, sameHome, precedes}
-use Rattle.rules.specs.Table.{at, between, due, deal, virginPlaces, entriesBetween}
+use Rattle.rules.specs.Table.{between, due, deal, virginPlaces, entriesBetween}
 use Rattle.rules.specs.Record.{homePlace, atRest, fits}
 use Rattle.rules.specs.Phase.{smaller, markOf}
 use Rattle.theory.specs.Dealt.{or-left, or-right}
 use Rattle.theory.specs.Gaps as gaps
-use Rattle.theory.specs.Gaps.{Side, HomePlace, other}
+use Rattle.theory.specs.Gaps.{Side, HomePlace}
 use Rattle.theory.specs.Cut.{end, from, upTo}
 use Rattle.theory.specs.Moving.{last-follows}
-use Rattle.together.specs.Invariant.{LookedLeft, Looked, Fills, Ready, Moving}
+use Rattle.together.specs.Invariant.{Looked, Fills, Ready, Moving}
 use Rattle.together.specs.Invariant.{Stage, at-rest, at-home, looks-left, looks-right, owns-left, owns-both, has-read}
 use Rattle.together.specs.Invariant.{moving, marking, frees-left, frees-right}
 use Rattle.together.specs.Facts.{FitsHand, FitsBusy, fits-busy}

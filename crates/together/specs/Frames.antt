@@ -1,19 +1,18 @@
 -- What finishing a task's words reads and writes, place by place: nothing outside the stretch in which hand, goal and home lie.
 -- Assumes nothing.
-use Prim.Native.Nat.{ℕ, zero, suc, _+_, _-_, _*_, _≤_, _<_}
-use mathlib.Core.Path.{_≡_, refl, sym, ap, ap₂, _∙_, subst}
+use Prim.Native.Nat.{ℕ, suc, _+_, _-_, _≤_, _<_}
+use mathlib.Core.Path.{_≡_, sym, ap, _∙_}
 use mathlib.Core.Logic.{_≢_}
-use mathlib.Core.Bool.{Bool, true, false}
-use mathlib.Core.List.{List, [], _∷_, _++_, append-assoc, map}
+use mathlib.Core.Bool.{Bool, false}
+use mathlib.Core.List.{List, _++_, append-assoc, map}
 use native.Mathlib.Omega.{arith}
-use native.Mathlib.Nat.{le-refl}
-use lib.ListN.{length, getD, take, drop, set, length-append, length-set, take-append-drop, List·getD-append, List·getD-map, length-map}
+use lib.ListN.{length, getD, take, drop, set, length-append, take-append-drop, List·getD-append, List·getD-map}
 use lib.Seq.{slice, length-slice, length-take-le, take-take, getD-append-add, getD-take, getD-drop, getD-set-same, getD-set-other, ext-getD}
-use Rattle.rules.specs.Word.{Word, zeroWord, withRemainder}
+use Rattle.rules.specs.Word.{Word, zeroWord}
 use Rattle.rules.specs.Table.{at, occupied}
 use Rattle.theory.specs.Run.{unlock}
 use Rattle.theory.specs.Places.{occupied-at, occupied-length}
-use Rattle.theory.specs.Motion.{fillAt, finish}
+use Rattle.theory.specs.Motion.{finish}
 use Rattle.theory.specs.Region.{locks, length-locks, finish-locks, finish-within}
 
 -- ---- words at a place

@@ -2,10 +2,10 @@
 -- and every lock cleared. A key is put into `laid` at the moment its task fills a place (phase 1 on an empty home, phase 8).
 -- `Stage` says of one task, phase by phase, what it may rely on; `Apart` of two tasks what they do not share; `Inv` joins them.
 -- Assumes nothing.
-use Prim.Native.Nat.{ℕ, suc, _+_, _≤_, _<_}
+use Prim.Native.Nat.{ℕ, _+_, _≤_, _<_}
 use mathlib.Core.Path.{_≡_}
 use mathlib.Core.Logic.{_⊎_, _≢_}
-use mathlib.Core.Bool.{Bool, true, false}
+use mathlib.Core.Bool.{true, false}
 use mathlib.Core.List.{List}
 use lib.ListN.{length}
 use Rattle.rules.specs.declared.Shape.{Shape}

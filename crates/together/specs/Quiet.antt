@@ -1,34 +1,33 @@
 -- Steps that put no key: those that write nothing (`still`), those that set or clear one lock (`relock`), and those that write between
 -- their own ends (`inside-stretch`). The table laid stays as it is.
 -- Assumes nothing.
-use Prim.Native.Nat.{ℕ, zero, suc, _+_, _≤_, _<_}
-use mathlib.Core.Path.{_≡_, refl, sym, ap, ap₂, _∙_, subst, subst₂}
+use Prim.Native.Nat.{ℕ, _≤_, _<_}
+use mathlib.Core.Path.{_≡_, refl, sym, ap, _∙_, subst, subst₂}
 use mathlib.Core.Logic.{_⊎_, _≢_, inl, inr}
-use mathlib.Core.Bool.{Bool, true, false, true≢false}
+use mathlib.Core.Bool.{Bool, true}
 use mathlib.Core.List.{List, map}
 use native.Mathlib.Omega.{arith}
 use lib.ListN.{length, set, length-set, length-map}
 use Rattle.rules.specs.declared.Shape.{Shape}
 use Rattle.rules.specs.declared.Task.{Task}
-use Rattle.rules.specs.Word.{Word, zeroWord, lockWord, withLock}
+use Rattle.rules.specs.Word.{Word, lockWord, withLock}
 use Rattle.rules.specs.Shape.{remainders, places}
-use Rattle.rules.specs.Entry.{Entry, split}
+use Rattle.rules.specs.Entry.{Entry}
 use Rattle.rules.specs.Table.{at, occupied}
-use Rattle.rules.specs.Lay.{holds}
 use Rattle.rules.specs.Give.{taskAt}
 use Rattle.theory.specs.Run.{unlock}
 use Rattle.theory.specs.Gaps as gaps
 use Rattle.theory.specs.Gaps.{Side, other}
 use Rattle.theory.specs.Cut.{end}
 use Rattle.theory.specs.Locks.{occupied-unlock}
-use Rattle.together.specs.Frames.{Within, at-set, at-other, same-words, at-unlocked, occupied-same}
-use Rattle.together.specs.Invariant.{Occupied, Looked, FilledEnd, Moving, Owns, by-left, by-right, Reserves, Apart, Unfinished, Inv}
+use Rattle.together.specs.Frames.{Within, at-set, at-other, same-words, at-unlocked}
+use Rattle.together.specs.Invariant.{Looked, FilledEnd, Owns, by-left, by-right, Reserves, Apart, Unfinished, Inv}
 use Rattle.together.specs.Invariant.{Ends, ends-found, ends-full, ends-inserted, RightEnd, right-found, right-full, right-waiting}
 use Rattle.together.specs.Invariant.{right-filled, Stage, at-rest, at-home, looks-left, looks-right, owns-left, owns-both, has-read}
 use Rattle.together.specs.Invariant.{moving, marking, frees-left, frees-right}
 use Rattle.together.specs.Stable.{Frame, LetsAlone, stage-stable}
 use Rattle.together.specs.Update.{Steps, same-or-not}
-use Rattle.together.specs.Facts.{words-size, between-taken}
+use Rattle.together.specs.Facts.{words-size}
 
 -- ---- an owned place is locked
 locked-word : {w : Word} → w ≡ lockWord → w .lock ≡ true

@@ -1,9 +1,9 @@
 -- Phase 7 under the invariant: the read never answers 4, and says found exactly for a key that is shown.
 -- Assumes nothing.
-use Prim.Native.Nat.{ℕ, suc, _+_, _-_, _≤_, _<_}
-use mathlib.Core.Path.{_≡_, refl, sym, ap, ap₂, _∙_, subst}
-use mathlib.Core.Logic.{_⊎_, _≢_, inl, inr}
-use mathlib.Core.Bool.{Bool, true, false, cond, _&&_, true≢false}
+use Prim.Native.Nat.{ℕ, _+_, _-_, _≤_, _<_}
+use mathlib.Core.Path.{_≡_, refl, sym, ap, _∙_}
+use mathlib.Core.Logic.{_⊎_, inl, inr}
+use mathlib.Core.Bool.{Bool, true, false, cond, _&&_}
 use mathlib.Core.List.{List}
 use native.Mathlib.Omega.{arith}
 use lib.ListN.{length}
@@ -26,12 +26,12 @@ use Rattle.theory.specs.Gaps.{AllTaken}
 use Rattle.theory.specs.Places.{occupied-at}
 use Rattle.together.specs.Frames.{occupied-same}
 use Rattle.together.specs.Facts.{between-taken}
-use Rattle.together.specs.Invariant.{Looked, Ready, Owns, by-left, by-right, Reserves, Unfinished, Inv, Stage, has-read, frees-left}
+use Rattle.together.specs.Invariant.{Looked, Ready, Owns, by-left, by-right, Unfinished, Inv, Stage, has-read, frees-left}
 use Rattle.together.specs.Invariant.{ends-found, ends-full}
 use Rattle.together.specs.Update.{Steps}
 use Rattle.together.specs.Quiet.{still}
 use Rattle.together.specs.Around.{Around, around}
-use Rattle.together.specs.Walk.{Walked, Effect, keeps, step-by, home-inside, looked-as, weight-low, quiet-low}
+use Rattle.together.specs.Walk.{Walked, keeps, step-by, home-inside, looked-as, weight-low, quiet-low}
 
 module _ {sh : Shape} {ws : List Word} {ts : List Task} {laid : List Word} {shown : List Entry}
     (low : remainders sh ≤ 4096) (inv : Inv sh ws ts laid shown) (i : ℕ) (lt : i < length ts)

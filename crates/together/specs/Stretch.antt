@@ -1,26 +1,22 @@
 -- Steps that write between their own ends (phases 8, 9 and 10): what they leave to the other tasks, and the moves and the mark.
 -- Assumes nothing.
-use Prim.Native.Nat.{ℕ, zero, suc, _+_, _-_, _≤_, _<_}
-use mathlib.Core.Path.{_≡_, refl, sym, ap, ap₂, _∙_, subst, subst₂}
+use Prim.Native.Nat.{ℕ, _-_, _≤_, _<_}
+use mathlib.Core.Path.{_≡_, refl, sym, ap, _∙_, subst}
 use mathlib.Core.Logic.{_⊎_, _≢_, inl, inr}
-use mathlib.Core.Bool.{Bool, true, false, cond, true≢false}
-use mathlib.Core.List.{List, map}
+use mathlib.Core.Bool.{false, true≢false}
+use mathlib.Core.List.{List}
 use native.Mathlib.Omega.{arith}
-use native.Mathlib.Nat.{le-refl}
-use lib.ListN.{length, set, length-set}
+use lib.ListN.{length}
 use Rattle.rules.specs.declared.Shape.{Shape}
 use Rattle.rules.specs.declared.Task.{Task}
-use Rattle.rules.specs.Word.{Word, zeroWord, lockWord}
-use Rattle.rules.specs.Shape.{homes, remainders, places, rightGuard}
-use Rattle.rules.specs.Entry.{Entry, split}
+use Rattle.rules.specs.Word.{Word}
+use Rattle.rules.specs.Shape.{remainders, places}
+use Rattle.rules.specs.Entry.{Entry}
 use Rattle.rules.specs.Table.{at, occupied}
-use Rattle.rules.specs.Lay.{holds}
-use Rattle.rules.specs.Record.{homePlace}
 use Rattle.rules.specs.Give.{taskAt}
 use Rattle.theory.specs.Run.{unlock}
-use Rattle.theory.specs.Building.{State}
 use Rattle.together.specs.Frames.{Within, occupied-same}
-use Rattle.together.specs.Invariant.{Occupied, Looked, Owns, by-left, by-right, Reserves, Apart, Unfinished, Inv, Stage}
+use Rattle.together.specs.Invariant.{Looked, Owns, by-left, by-right, Apart, Unfinished, Inv, Stage}
 use Rattle.together.specs.Stable.{Frame, LetsAlone, stage-stable}
 use Rattle.together.specs.Update.{Steps, same-or-not}
 use Rattle.together.specs.Facts.{in-order, words-size, between-taken}

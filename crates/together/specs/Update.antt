@@ -1,6 +1,6 @@
 -- One task's step changes the invariant at that task alone: `inv-update`, from the step's own part and what it leaves to the others.
 -- Assumes nothing.
-use Prim.Native.Nat.{ℕ, zero, suc, _+_, _≤_, _<_}
+use Prim.Native.Nat.{ℕ, _<_}
 use mathlib.Core.Path.{_≡_, refl, sym, ap, _∙_, subst, subst₂}
 use mathlib.Core.Logic.{_⊎_, _≢_, inl, inr}
 use mathlib.Core.Bool.{Bool, true, false}
@@ -18,8 +18,7 @@ use Rattle.rules.specs.Table.{at, occupied}
 use Rattle.rules.specs.Give.{noTask, taskAt}
 use Rattle.theory.specs.Run.{unlock}
 use Rattle.theory.specs.Building.{State}
-use Rattle.together.specs.Frames.{Within}
-use Rattle.together.specs.Invariant.{Stage, Owns, Reserves, Apart, Unfinished, Inv}
+use Rattle.together.specs.Invariant.{Stage, Owns, Apart, Unfinished, Inv}
 
 pub apart-sym : {t u : Task} → Apart t u → Apart u t
 apart-sym a =

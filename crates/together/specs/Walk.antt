@@ -1,14 +1,13 @@
 -- One step of a busy task under the invariant: what `Walked` says. Here phases 1 to 6: looking, locking, backing off; and what a step by
 -- number is. The fill of an empty home is elsewhere (Commit).
 -- Assumes nothing.
-use Prim.Native.Nat.{ℕ, suc, _+_, _-_, _≤_, _<_}
-use mathlib.Core.Path.{_≡_, refl, sym, ap, ap₂, _∙_, subst, subst₂}
+use Prim.Native.Nat.{ℕ, _+_, _-_, _≤_, _<_}
+use mathlib.Core.Path.{_≡_, refl, sym, ap, ap₂, _∙_, subst}
 use mathlib.Core.Logic.{_⊎_, _≢_, inl, inr}
 use mathlib.Core.Bool.{Bool, true, false, not, cond, _&&_, _||_, true≢false, false≢true}
-use mathlib.Core.List.{List, map}
+use mathlib.Core.List.{List}
 use native.Mathlib.Omega.{arith}
-use native.Mathlib.Nat.{le-refl}
-use lib.ListN.{length, set}
+use lib.ListN.{length}
 use lib.Dec.{eqb, leb}
 use borrow.Author.Tests.{ne-eqb, eqb-true, le-leb, lt-leb}
 use Rattle.rules.specs.declared.Shape.{Shape}
@@ -17,28 +16,26 @@ use Rattle.rules.specs.Lists.{bitOf}
 use Rattle.rules.specs.Word.{Word, zeroWord, lockWord, withLock, isVoid, isZero}
 use Rattle.rules.specs.Shape.{homes, remainders, keys, places, rightGuard}
 use Rattle.rules.specs.Entry.{Entry, split}
-use Rattle.rules.specs.Table.{at, occupied, guardsVoid}
+use Rattle.rules.specs.Table.{at, occupied}
 use Rattle.rules.specs.Lay.{holds, insert}
-use Rattle.rules.specs.Record.{homePlace, within, atRest, fits, toPhase, withLeft, withRight}
+use Rattle.rules.specs.Record.{homePlace, within, atRest, toPhase, withLeft, withRight}
 use Rattle.rules.specs.Give.{taskAt}
 use Rattle.rules.specs.Phase as phase
-use Rattle.rules.specs.Phase.{Step, to, unsound}
-use Rattle.rules.specs.Step.{ofPhase, Stepped, steps, orUnsound, stepOf}
+use Rattle.rules.specs.Phase.{Step, to}
+use Rattle.rules.specs.Step.{ofPhase, steps, orUnsound, stepOf}
 use Rattle.words.specs.Split.{split-in-shape}
-use Rattle.theory.specs.Run.{unlock}
 use Rattle.theory.specs.Dealt.{word-path, and-left, and-right}
 use Rattle.theory.specs.Gaps as gaps
 use Rattle.theory.specs.Gaps.{Side, other, AllTaken}
 use Rattle.theory.specs.Cut.{end}
 use Rattle.theory.specs.Places.{occupied-at}
-use Rattle.theory.specs.Building.{State, after-put}
+use Rattle.theory.specs.Building.{after-put}
 use Rattle.together.specs.Frames.{Within}
 use Rattle.together.specs.Invariant.{Occupied, LookedLeft, Looked, Owns, by-left, by-right, Reserves, Apart, Unfinished, Inv}
 use Rattle.together.specs.Invariant.{Moving, Stage, at-rest, at-home, looks-left, looks-right, owns-left, owns-both}
 use Rattle.together.specs.Invariant.{has-read, moving, marking, frees-left, frees-right}
-use Rattle.together.specs.Stable.{word-of}
 use Rattle.together.specs.Update.{Steps, same-or-not}
-use Rattle.together.specs.Facts.{in-order, between-taken, words-size, free-void, guards-free, guards-void}
+use Rattle.together.specs.Facts.{in-order, between-taken, words-size, guards-free, guards-void}
 use Rattle.together.specs.Fitting.{stage-fits}
 use Rattle.together.specs.Stretch.{own-end}
 use Rattle.together.specs.Quiet.{owned-locked, still, relocked, relocked-here, relocked-other, relock, relock-looked}
