@@ -2,5 +2,6 @@
 // Each function is one equation with a definition of the crate rules, and its work is linear in the cluster.
 mod bit;
 pub mod gaps;
+pub mod guards;
 pub mod read;
 pub mod run;

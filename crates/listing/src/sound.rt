@@ -1,5 +1,6 @@
 // Whether a whole table is sound (01, Shape and layout): the guards, and then each cluster once, from gap to gap.
 use cluster::gaps::right_gap;
+use cluster::guards::guards_void;
 use cluster::run::sound_run;
 use rules::Shape;
 use words::bytes::word_at;
@@ -16,17 +17,6 @@ ghost use Rattle.rules.specs.Shape.{places};
 ghost use Rattle.rules.specs.Table.{at, between, soundRun, guardsVoid, sound};
 ghost use Rattle.words.specs.Range.{InRange};
 ghost use Rattle.listing.specs.Sound.{soundAfter};
-
-fn guards_void(sh: Shape, table: &[u8]) -> bool
-    requires { ⌜ InRange sh ⌝ ∗ ⌜ length (now table) ≡ 2 * places sh ⌝ }
-    ensures { λ t. ⌜ t ≡ guardsVoid sh (wordsOf (now (table .entry))) ⌝ }
-{
-    if is_void(word_at(table, Place(0))) {
-        is_void(word_at(table, right_guard(sh)))
-    } else {
-        false
-    }
-}
 
 // The cluster between two gaps, and the second gap itself.
 fn sound_between(sh: Shape, table: &[u8], l: Place, r: Place) -> bool

@@ -1,38 +1,23 @@
 // One step on a record by value (01, Tasks and their steps): refusals 1, 3, 5 and 6 in their order, then the phase.
 use crate::busy::Busy;
 use crate::fits::fits;
+use cluster::guards::guards_void;
 use rules::Refusal;
 use rules::Shape;
 use rules::Task;
 use rules::Turn;
-use words::bytes::word_at;
-use words::place::Place;
 use words::shape::good_table;
-use words::shape::right_guard;
 use words::shape::shape_of;
-use words::word::is_void;
 ghost use mathlib.Core.Path.{_≡_};
 ghost use mathlib.Core.Bool.{true, false};
 ghost use Prim.Native.Nat.{_*_};
 ghost use lib.ListN.{length};
 ghost use Rattle.rules.specs.Bytes.{wordsOf};
 ghost use Rattle.rules.specs.Shape.{places};
-ghost use Rattle.rules.specs.Table.{guardsVoid};
 ghost use Rattle.rules.specs.Record.{atRest, fits as fit};
 ghost use Rattle.rules.specs.Step.{stepOf};
 ghost use Rattle.words.specs.Range.{InRange};
 ghost use Rattle.tasks.specs.Stepping.{stepSays, leftAfter, stepOne};
-
-fn guards_void(sh: Shape, table: &[u8]) -> bool
-    requires { ⌜ InRange sh ⌝ ∗ ⌜ length (now table) ≡ 2 * places sh ⌝ }
-    ensures { λ b. ⌜ b ≡ guardsVoid sh (wordsOf (now (table .entry))) ⌝ }
-{
-    if is_void(word_at(table, Place(0))) {
-        is_void(word_at(table, right_guard(sh)))
-    } else {
-        false
-    }
-}
 
 // On a busy record that fits: 6 by the guards or by the phase.
 fn busy_step(sh: Shape, table: &mut [u8], t: Task) -> Turn

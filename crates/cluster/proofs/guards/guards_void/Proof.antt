@@ -6,8 +6,8 @@ use denote.Ref.{now}
 use Rattle.rules.specs.Bytes.{wordsOf}
 use Rattle.rules.specs.Shape.{places, rightGuard}
 use Rattle.rules.specs.Table.{guardsVoid}
-use Rattle.listing.proofs.sound.guards_void.Statement.{statement}
-use Rattle.listing.proofs.sound.guards_void.Tie as tie
+use Rattle.cluster.proofs.guards.guards_void.Statement.{statement}
+use Rattle.cluster.proofs.guards.guards_void.Tie as tie
 
 word-at-requires : tie.Need-word-at-requires
 unfolding places
