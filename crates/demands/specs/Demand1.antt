@@ -39,7 +39,7 @@ either : {A : Type 0} {lent : A} {x y : Leaves A} (b : Bool) → Settled lent x 
 either true p q = p
 either false p q = q
 
--- a refusal by one of the paper's numbers
+-- a refusal, by the number after n: never 0
 no : {A : Type 0} {lent : A} (n : ℕ) → Settled lent (leaves (refuses (suc n)) lent)
 no n = refuse (suc n) (omega arith)
 
@@ -129,7 +129,7 @@ give-settles m r key tasks i =
     (no 0)
 
 -- ---- step
--- a refused step has one of the paper's numbers
+-- a refused step has a number, never 0
 data Numbered : Stepped → Type 0 where
   goes-on : (t : Task) (ws : List Word) → Numbered (steps t ws)
   stopped : (n : ℕ) → 1 ≤ n → Numbered (refused n)

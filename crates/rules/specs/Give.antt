@@ -1,4 +1,4 @@
--- Give (01, Tasks and their steps): a key for an idle or done task; the record's other fields become zero.
+-- Give (01, Tasks and their steps): a key for a task that is not busy; the record's other fields become zero.
 -- Assumes nothing.
 use Prim.Native.Nat.{ℕ}
 use mathlib.Core.Bool.{Bool, cond, _&&_}

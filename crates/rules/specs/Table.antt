@@ -67,6 +67,7 @@ unfoldable pub virginPlaces : ℕ → List Word → List ℕ
 virginPlaces p [] = []
 virginPlaces p (w ∷ ws) = cond (w .virgin) (p ∷ virginPlaces (suc p) ws) (virginPlaces (suc p) ws)
 
+-- the first of some places; in a sound table there is always one, and 0 is no home's place
 abbrev pub front : List ℕ → ℕ
 front [] = 0
 front (h ∷ hs) = h
@@ -106,10 +107,11 @@ entries ws = entriesFrom ws 0 ws
 unfoldable pub list : Shape → List Word → List ℕ
 list sh ws = map (join sh) (entries ws)
 
--- a place is sound if its cluster is, or if it is unoccupied and 0, lock bit aside; `rest` are the words from place p on
+-- a place is sound if its cluster is, or if it is unoccupied and 0, lock bit aside
 unfoldable pub soundAt : Shape → List Word → ℕ → Word → Bool
 soundAt sh ws p w = cond (w .occupied) (soundRun sh (cluster ws p)) (isVoid w)
 
+-- and so of the words `rest`, from place p on
 unfoldable pub soundFrom : Shape → List Word → ℕ → List Word → Bool
 soundFrom sh ws p [] = true
 soundFrom sh ws p (w ∷ rest) = soundAt sh ws p w && soundFrom sh ws (suc p) rest

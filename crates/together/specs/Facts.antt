@@ -1,5 +1,5 @@
 -- What the invariant tells of the words: an unoccupied word is 0 or exactly the lock bit, the guards are void, the stretch that a task
--- reserves has the words laid; and of the records: each fits.
+-- reserves has the words laid. (That each record fits: Fitting.)
 -- Assumes nothing.
 use Prim.Native.Nat.{ℕ, zero, suc, _≤_, _<_}
 use mathlib.Core.Path.{_≡_, refl, sym, ap, _∙_, subst}

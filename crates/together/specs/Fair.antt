@@ -24,7 +24,6 @@ use Rattle.rules.specs.Build.{puts}
 use Rattle.rules.specs.Answer.{Answer, says, refuses, Leaves, leaves}
 use Rattle.rules.specs.Record.{busy, atRest, fitsBusy, fits}
 use Rattle.rules.specs.Give.{given, noTask, taskAt, goodTask, giveTo, storedAt, give}
-use Rattle.rules.specs.Step as rules-step
 use Rattle.rules.specs.Step.{Lent, Stepped, refused, stepOf, lentAfter, step}
 use Rattle.words.specs.Range.{InRange, good-table, remainders-high}
 use Rattle.words.specs.Layout.{bytes-length, words-of-bytes, remainders-small}

@@ -1,5 +1,5 @@
--- The history beside the invariant: who was given, who has answered, and which keys were put. `Fair` holds of every world that a course
--- reaches from a plain table with tasks at rest (`fair-course`).
+-- Counting over the records and the history: how often a key is busy, loaded (put and not yet answered), answered; and what a give and
+-- a step do to these counts.
 -- Assumes nothing.
 use Prim.Native.Nat.{ℕ, zero, suc, _+_, _*_, _≤_, _<_}
 use mathlib.Core.Path.{_≡_, refl, sym, ap, ap₂, _∙_, subst}

@@ -1,4 +1,6 @@
--- Demand 3: tasks together.
+-- Demand 3: tasks together. The statements are in Demand3, the invariant in Invariant.
+-- Frames to Quiet: what one task's step leaves to the others. Stretch to Course: each phase's step keeps the invariant.
+-- Machine to Rest: runs of gives and steps, their history, and what it says at rest.
 pub mod Frames
 pub mod Invariant
 pub mod Stable

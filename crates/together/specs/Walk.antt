@@ -40,7 +40,7 @@ use Rattle.together.specs.Fitting.{stage-fits}
 use Rattle.together.specs.Stretch.{own-end}
 use Rattle.together.specs.Quiet.{owned-locked, still, relocked, relocked-here, relocked-other, relock, relock-looked}
 
--- 1 for a task that has put its key and is not yet, or just now, done: phases 9 and 10, and from 11 on with answer 2
+-- 1 for a task that has put its key, from the fill until the next give: phases 9 and 10, and from 11 on with answer 2
 abbrev pub weight : Task → ℕ
 weight t = bitOf (within 9 10 (t .phase) || (within 11 13 (t .phase) && eqb (t .answer) 2))
 
