@@ -1,6 +1,7 @@
--- Demand 1, its last sentence: "A bad call gets its number from document 01 and changes nothing; only a build that finds too many keys
--- leaves an empty table." For each call's definition, whatever it is lent: a number other than 0 means that all lent is as it was.
--- (That every call takes arbitrary input, ends and stays inside what it was lent is what each function's own proof says.)
+-- Demand 1, its last sentence: "A bad call gets its number from document 01 and changes nothing; only a build that
+-- finds too many keys leaves an empty table." For each call's definition, whatever it is lent: a number other than 0
+-- means that all lent is as it was. (That every call takes arbitrary input, ends and stays inside what it was lent is
+-- what each function's own proof says.)
 -- Assumes nothing.
 use Prim.Native.Nat.{ℕ, suc, _≤_}
 use mathlib.Core.Path.{sym, subst}
@@ -30,12 +31,14 @@ use Rattle.rules.specs.Give.{given, noTask, taskAt, goodTask, giveTo, storedAt,
 use Rattle.rules.specs.Phase.{Step, to, unsound}
 use Rattle.rules.specs.Step.{Stepped, steps, refused, ofPhase, orUnsound, stepOf, lentAfter, step}
 
--- a call's answer with what it leaves: refused with a number, zeros beside it and all that was lent as it was; or accepted
+-- a call's answer with what it leaves: refused with a number, zeros beside it and all that was lent as it was; or
+-- accepted
 pub data Settled {A : Type 0} (lent : A) : Leaves A → Type 0 where
   refuse : (n : ℕ) → 1 ≤ n → Settled lent (leaves (refuses n) lent)
   accept : (value : ℕ) (after : A) → Settled lent (leaves (says value) after)
 
-either : {A : Type 0} {lent : A} {x y : Leaves A} (b : Bool) → Settled lent x → Settled lent y → Settled lent (cond b x y)
+either :
+    {A : Type 0} {lent : A} {x y : Leaves A} (b : Bool) → Settled lent x → Settled lent y → Settled lent (cond b x y)
 either true p q = p
 either false p q = q
 
@@ -177,7 +180,8 @@ pub data Built (bytes : List ℕ) : Leaves (List ℕ) → Type 0 where
   settled : {x : Leaves (List ℕ)} → Settled bytes x → Built bytes x
   emptied : Built bytes (leaves (refuses 8) (replicate (length bytes) 0))
 
-built-either : (bytes : List ℕ) {x y : Leaves (List ℕ)} (b : Bool) → Built bytes x → Built bytes y → Built bytes (cond b x y)
+built-either :
+    (bytes : List ℕ) {x y : Leaves (List ℕ)} (b : Bool) → Built bytes x → Built bytes y → Built bytes (cond b x y)
 built-either bytes true p q = p
 built-either bytes false p q = q
 

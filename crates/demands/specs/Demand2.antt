@@ -1,6 +1,6 @@
--- Demand 2 about the definitions of document 01, sentence by sentence, for every shape in range and every lent table, key and list of keys.
--- The terms are in Terms; every proof is elsewhere (Proof2, Proof3). "Each step of a task does what the step list says" is what the
--- contracts of the tasks say.
+-- Demand 2 about the definitions of document 01, sentence by sentence, for every shape in range and every lent table,
+-- key and list of keys. The terms are in Terms; every proof is elsewhere (Proof2, Proof3). "Each step of a task does
+-- what the step list says" is what the contracts of the tasks say.
 -- Assumes nothing.
 use Prim.Native.Nat.{ℕ, _≤_, _<_}
 use mathlib.Core.Path.{_≡_}
@@ -27,7 +27,8 @@ use Rattle.demands.specs.Proof2 as proof
 use Rattle.demands.specs.Proof3 as proof-many
 
 -- "A sound table shows one ascending list of keys": strictly ascending, each below 2^w
-pub list-ascends : {m r : ℕ} {bytes : List ℕ} → SoundTable m r bytes → Ascending (keys (shapeOf m r)) 0 (listOf m r bytes)
+pub list-ascends :
+    {m r : ℕ} {bytes : List ℕ} → SoundTable m r bytes → Ascending (keys (shapeOf m r)) 0 (listOf m r bytes)
 list-ascends t = proof.ascending-list t
 
 -- which, with soundness itself, does not depend on lock bits
@@ -69,8 +70,8 @@ module _ {m r : ℕ} {bytes : List ℕ} (t : PlainTable m r bytes) (key : ℕ) (
       (AllTaken (shapeOf m r) (occupied (wordsOf bytes)) → ⊥) → Adds m r bytes key
   put-absent absent some = proof.put-adds t key lt absent some
 
--- from any sound unlocked table, where its keys and those put make at most 2^m distinct keys, putting the same keys in any order, with
--- any repeats, gives the same bytes
+-- from any sound unlocked table, where its keys and those put make at most 2^m distinct keys, putting the same keys
+-- in any order, with any repeats, gives the same bytes
 pub puts-any-order :
     {m r : ℕ} {bytes : List ℕ} (ks js : List ℕ) →
     PlainTable m r bytes →

@@ -1,4 +1,5 @@
--- The demands as theorems about the rules' definitions. Read Demand1, Terms and Demand2; Lent, Proof2 and Proof3 are their proofs.
+-- The demands as theorems about the rules' definitions. Read Demand1, Terms and Demand2; Lent, Proof2 and Proof3 are
+-- their proofs.
 pub mod Demand1
 pub mod Terms
 pub mod Lent

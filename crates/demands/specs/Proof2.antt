@@ -155,7 +155,9 @@ module _ {m r : ℕ} {bytes : List ℕ} (t : PlainTable m r bytes) (key : ℕ) (
       (table-of (t .whole))
       (t .unlocked)
 
-  pub put-by : {o : Outcome} → putIn (shapeOf m r) (wordsOf bytes) (split (shapeOf m r) key) ≡ o → put m r bytes key ≡ bytesAfter bytes o
+  pub put-by :
+      {o : Outcome} → putIn (shapeOf m r) (wordsOf bytes) (split (shapeOf m r) key) ≡ o →
+      put m r bytes key ≡ bytesAfter bytes o
   unfolding put
   put-by e = rw (t .whole .good, lt-ltb key (keys (shapeOf m r)) lt, e)
 
@@ -186,7 +188,13 @@ module _ {m r : ℕ} {bytes : List ℕ} (t : PlainTable m r bytes) (key : ℕ) (
           put m r bytes key ≡ leaves (refuses 8) bytes
       go o e (found k) = absurd (true≢false (sym k ∙ sym here ∙ h))
       go o e (inserted p k room added) =
-          absurd (place≢full (sym room ∙ full-room (table-guarded (shapeOf m r) (size-of (t .whole)) (table-of (t .whole))) (home-of-key (shapeOf m r) key lt) every))
+          absurd
+          (place≢full
+          (sym room
+          ∙ full-room
+          (table-guarded (shapeOf m r) (size-of (t .whole)) (table-of (t .whole)))
+          (home-of-key (shapeOf m r) key lt)
+          every))
       go o e (overflow k room) = put-by e
 
   added-adds :
@@ -241,4 +249,9 @@ module _ {m r : ℕ} {bytes : List ℕ} (t : PlainTable m r bytes) (key : ℕ) (
       go o e (found k) = absurd (true≢false (sym k ∙ sym here ∙ h))
       go o e (inserted p k room added) = added-adds p room added e
       go o e (overflow k room) =
-          absurd (some (room-full (split (shapeOf m r) key .home) (table-guarded (shapeOf m r) (size-of (t .whole)) (table-of (t .whole))) room))
+          absurd
+          (some
+          (room-full
+          (split (shapeOf m r) key .home)
+          (table-guarded (shapeOf m r) (size-of (t .whole)) (table-of (t .whole)))
+          room))

@@ -81,7 +81,8 @@ split-within sh key lt =
     let i = split-in-shape sh key lt in
     record { above = omega (arith, i .home-low); low = i .remainder-low; inside = omega (arith, i .home-high) }
 
-pub all-within : (sh : Shape) (ks : List ℕ) → InKeys sh ks → All (Within (remainders sh) (rightGuard sh) 4096) (entriesOf sh ks)
+pub all-within :
+    (sh : Shape) (ks : List ℕ) → InKeys sh ks → All (Within (remainders sh) (rightGuard sh) 4096) (entriesOf sh ks)
 unfolding all
 all-within sh [] h = perm.none
 all-within sh (k ∷ ks) h =
@@ -118,7 +119,9 @@ same-entries :
     (x : Entry) → holds x (entriesOf sh ks) ≡ holds x (entriesOf sh js)
 same-entries sh ks js s h k alike x = go (holds x (entriesOf sh ks)) (holds x (entriesOf sh js)) refl refl
   where
-    carried : (ls : List ℕ) → InKeys sh ls → holds x (entriesOf sh ls) ≡ true → holds x (entriesOf sh ks) ≡ holds x (entriesOf sh js)
+    carried :
+        (ls : List ℕ) → InKeys sh ls → holds x (entriesOf sh ls) ≡ true →
+        holds x (entriesOf sh ks) ≡ holds x (entriesOf sh js)
     carried ls l t =
         let (back, lt) = held-key sh ls x s l t in
         ap (λ (e : Entry). holds e (entriesOf sh ks)) (sym back)
@@ -145,7 +148,9 @@ ascend-keys sh ks js s h k alike =
 
 -- ---- build
 -- at most as many distinct keys as homes: a table has room for them
-pub keys-roomy : (sh : Shape) (ks : List ℕ) → remainders sh ≤ 4096 → InKeys sh ks → distinct sh ks ≤ homes sh → Roomy sh (ascend (entriesOf sh ks))
+pub keys-roomy :
+    (sh : Shape) (ks : List ℕ) → remainders sh ≤ 4096 → InKeys sh ks → distinct sh ks ≤ homes sh →
+    Roomy sh (ascend (entriesOf sh ks))
 unfolding distinct
 keys-roomy sh ks s h few = record { low = s; asc = ascend-asc s (all-within sh ks h); few = few }
 
@@ -264,14 +269,17 @@ build-order m r bytes ks js good h k alike = go (ltb (homes (shapeOf m r)) (dist
     same : ascend (entriesOf (shapeOf m r) ks) ≡ ascend (entriesOf (shapeOf m r) js)
     same = ascend-keys (shapeOf m r) ks js (remainders-high (shapeOf m r) range) h k alike
 
-    go : (b : Bool) → ltb (homes (shapeOf m r)) (distinct (shapeOf m r) ks) ≡ b → build m r bytes ks ≡ build m r bytes js
+    go :
+        (b : Bool) → ltb (homes (shapeOf m r)) (distinct (shapeOf m r) ks) ≡ b →
+        build m r bytes ks ≡ build m r bytes js
     go true t =
         let many = ltb-true (homes (shapeOf m r)) (distinct (shapeOf m r) ks) t in
         build-many m r bytes ks good h many
         ∙ sym (build-many m r bytes js good k (subst (λ (n : ℕ). homes (shapeOf m r) < n) (ap length same) many))
     go false t =
         let few = ltb-false (homes (shapeOf m r)) (distinct (shapeOf m r) ks) t in
-        let also : distinct (shapeOf m r) js ≤ homes (shapeOf m r) = subst (λ (n : ℕ). n ≤ homes (shapeOf m r)) (ap length same) few in
+        let also : distinct (shapeOf m r) js ≤ homes (shapeOf m r) =
+        subst (λ (n : ℕ). n ≤ homes (shapeOf m r)) (ap length same) few in
         build-few m r bytes ks good h few
         ∙ ap
         (λ (ws : List Word). leaves (says 0) (bytesOf ws))
@@ -325,7 +333,9 @@ put-plain {m} {r} {bytes} t key lt =
     range : InRange (shapeOf m r)
     range = in-range-of (t .whole)
 
-    kept : (a : Answer) → putIn (shapeOf m r) (wordsOf bytes) (split (shapeOf m r) key) ≡ keeps a → Leaves-plain m r bytes key
+    kept :
+        (a : Answer) → putIn (shapeOf m r) (wordsOf bytes) (split (shapeOf m r) key) ≡ keeps a →
+        Leaves-plain m r bytes key
     kept a e =
         record {
           table = subst (PlainTable m r) (sym (ap left-by (put-by t key lt e))) t;

@@ -1,5 +1,6 @@
--- The terms in which Demand2 speaks: sound and plain tables in lent bytes, their list, keys in range, how many are distinct, puts one by
--- one, and what a put that adds and a build that is accepted leave. (`listed`, `Ascending`: the theory's Keys.)
+-- The terms in which Demand2 speaks: sound and plain tables in lent bytes, their list, keys in range, how many are
+-- distinct, puts one by one, and what a put that adds and a build that is accepted leave. (`listed`, `Ascending`: the
+-- theory's Keys.)
 -- Assumes nothing.
 use Prim.Native.Nat.{ℕ, _<_}
 use mathlib.Core.Path.{_≡_}

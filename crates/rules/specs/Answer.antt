@@ -1,9 +1,11 @@
--- Answers and their numbers (01): 0 with the call's values where it is accepted, else the refusal's number with zeros beside it.
--- The enums of src/ have the paper's number and values here; promises are stated through these definitions.
+-- Answers and their numbers (01): 0 with the call's values where it is accepted, else the refusal's number with zeros
+-- beside it. The enums of src/ have the paper's number and values here; promises are stated through these
+-- definitions.
 -- Assumes nothing.
 use Prim.Native.Nat.{ℕ}
 use Rattle.rules.specs.declared.Refusal.{Refusal}
-use Rattle.rules.specs.declared.Refusal.the-variants.{BadShape, BadKey, BadTask, Busy, AtRest, Unsound, Locked, Full, TooFewSlots}
+use Rattle.rules.specs.declared.Refusal.the-variants.{BadShape, BadKey, BadTask, Busy, AtRest, Unsound, Locked}
+use Rattle.rules.specs.declared.Refusal.the-variants.{Full, TooFewSlots}
 use Rattle.rules.specs.declared.FindAnswer.{FindAnswer}
 use Rattle.rules.specs.declared.FindAnswer.the-variants as find-answer
 use Rattle.rules.specs.declared.PutAnswer.{PutAnswer}

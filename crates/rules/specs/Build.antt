@@ -1,4 +1,5 @@
--- Build (01, Answers and their numbers): puts from all zero, in any order, repeats allowed; too many keys leave all zero.
+-- Build (01, Answers and their numbers): puts from all zero, in any order, repeats allowed; too many keys leave all
+-- zero.
 -- Assumes nothing.
 use Prim.Native.Nat.{ℕ}
 use mathlib.Core.Bool.{Bool, cond}
@@ -30,7 +31,10 @@ tooMany sh es = ltb (homes sh) (length (ascend es))
 
 unfoldable pub buildIn : Shape → List ℕ → List Entry → Leaves (List ℕ)
 buildIn sh bytes es =
-    cond (tooMany sh es) (leaves (refuses 8) (replicate (length bytes) 0)) (leaves (says 0) (bytesOf (puts sh (zeros sh) es)))
+    cond
+    (tooMany sh es)
+    (leaves (refuses 8) (replicate (length bytes) 0))
+    (leaves (says 0) (bytesOf (puts sh (zeros sh) es)))
 
 -- build (m, r, the lent table, keys), with the table as it is left
 unfoldable pub build : ℕ → ℕ → List ℕ → List ℕ → Leaves (List ℕ)

@@ -1,5 +1,5 @@
--- Rows beside the paper's examples, where the rules are easy to get wrong: its examples that are only to be run, unsound tables that
--- differ from a sound one in one rule, and a lone task. One claim, as in Examples.
+-- Rows beside the paper's examples, where the rules are easy to get wrong: its examples that are only to be run,
+-- unsound tables that differ from a sound one in one rule, and a lone task. One claim, as in Examples.
 -- Assumes nothing.
 use Prim.Native.Nat.{ℕ, zero, suc}
 use mathlib.Core.Path.{_≡_, refl}
@@ -10,8 +10,10 @@ use Rattle.rules.specs.Lists.{count, all, any}
 use Rattle.rules.specs.Word.{wordOf, numberOf, isVoid, isZero, isLock}
 use Rattle.rules.specs.Bytes.{wordsOf, bytesOf}
 use Rattle.rules.specs.Shape.{inRange, homes, remainders, keys, places, rightGuard, fitsLength, goodTable}
-use Rattle.rules.specs.Entry.{placeOfHome, homeOfPlace, homeOf, remainderOf, split, join, sameHome, sameEntry, precedes}
-use Rattle.rules.specs.Table.{occupied, leftGap, lead, rightGap, cluster, endsInChange, rising, soundRun, virginPlaces}
+use Rattle.rules.specs.Entry.{placeOfHome, homeOfPlace, homeOf, remainderOf, split, join, sameHome, sameEntry}
+use Rattle.rules.specs.Entry.{precedes}
+use Rattle.rules.specs.Table.{occupied, leftGap, lead, rightGap, cluster, endsInChange, rising, soundRun}
+use Rattle.rules.specs.Table.{virginPlaces}
 use Rattle.rules.specs.Table.{deal, entriesBetween, clusterEntries, entryAt, entriesFrom, entries, list}
 use Rattle.rules.specs.Table.{soundAt, soundFrom, guardsVoid, sound, locked}
 use Rattle.rules.specs.Room.{roomBeside, roomFor}
@@ -46,7 +48,8 @@ lone key n =
     let l = stepped n (record { table = alone; tasks = given key ∷ [] }) in
     leaves (says (taskAt (l .tasks) 0 .answer)) (l .table)
 
--- the phase in the record and the bytes, after one step of a task with 31 that is in a phase, its left 3 and its right 5
+-- the phase in the record and the bytes, after one step of a task with 31 that is in a phase, its left 3 and its
+-- right 5
 unfoldable pub after : ℕ → List ℕ → Leaves (List ℕ)
 after n ns =
     let t : Task = record { key = 0x31; phase = n; left = 3; right = 5; hand = 0; goal = 0; mark = 0; answer = 0 } in
@@ -108,13 +111,15 @@ edges =
     ∷ []
 
 pub edges-hold : map (λ (row : Row). row .call) edges ≡ map (λ (row : Row). row .paper) edges
-unfolding tableOf count all any wordOf numberOf isVoid isZero isLock wordsOf bytesOf inRange homes remainders keys places rightGuard
-    fitsLength goodTable placeOfHome homeOfPlace homeOf remainderOf split join sameHome sameEntry precedes
-    occupied leftGap lead rightGap cluster endsInChange rising soundRun virginPlaces deal entriesBetween
-    clusterEntries entryAt entriesFrom entries list soundAt soundFrom guardsVoid sound locked roomBeside
-    roomFor holds insert ascend hasHome endsGroup lay around soundAround lockedAround findIn find layRun
-    enlargedFrom addAt putIn put zeros puts tooMany buildIn build atFront listIn listing figure fill
+unfolding tableOf count all any wordOf numberOf isVoid isZero isLock wordsOf bytesOf inRange homes remainders keys
+    places rightGuard fitsLength goodTable placeOfHome homeOfPlace homeOf remainderOf split join sameHome
+    sameEntry precedes occupied leftGap lead rightGap cluster endsInChange rising soundRun virginPlaces deal
+    entriesBetween clusterEntries entryAt entriesFrom entries list soundAt soundFrom guardsVoid sound locked
+    roomBeside roomFor holds insert ascend hasHome endsGroup lay around soundAround lockedAround findIn find
+    layRun enlargedFrom addAt putIn put zeros puts tooMany buildIn build atFront listIn listing figure fill
     homePlace busy atRest fitsHand fitsBusy fits given goodTask ofPhase stepOf step stepped lone after
-    phase.home phase.lookLeft phase.lookRight phase.lockLeft phase.lockRight phase.backOff phase.read phase.fillHand phase.move
-    phase.readable phase.smaller phase.markOf phase.handOf phase.goalOf phase.readEntries phase.mark phase.freeLeft phase.freeRight phase.movesOn phase.neighbour phase.exchange phase.setChange phase.setVirgin phase.marked
+    phase.home phase.lookLeft phase.lookRight phase.lockLeft phase.lockRight phase.backOff phase.read
+    phase.fillHand phase.move phase.readable phase.smaller phase.markOf phase.handOf phase.goalOf
+    phase.readEntries phase.mark phase.freeLeft phase.freeRight phase.movesOn phase.neighbour phase.exchange
+    phase.setChange phase.setVirgin phase.marked
 edges-hold = refl

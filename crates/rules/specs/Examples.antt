@@ -1,4 +1,5 @@
--- The examples of document 01 that are marked P, as rows of one table, and the one claim that each call gives what the paper says.
+-- The examples of document 01 that are marked P, as rows of one table, and the one claim that each call gives what
+-- the paper says.
 -- Assumes nothing.
 use Prim.Native.Nat.{ℕ, _%_, _/_}
 use mathlib.Core.Path.{_≡_, refl}
@@ -8,8 +9,10 @@ use Rattle.rules.specs.Lists.{count, all, any}
 use Rattle.rules.specs.Word.{wordOf, numberOf, isVoid}
 use Rattle.rules.specs.Bytes.{wordsOf, bytesOf}
 use Rattle.rules.specs.Shape.{inRange, homes, remainders, keys, places, rightGuard, fitsLength, goodTable}
-use Rattle.rules.specs.Entry.{placeOfHome, homeOfPlace, homeOf, remainderOf, split, join, sameHome, sameEntry, precedes}
-use Rattle.rules.specs.Table.{occupied, leftGap, lead, rightGap, cluster, endsInChange, rising, soundRun, virginPlaces}
+use Rattle.rules.specs.Entry.{placeOfHome, homeOfPlace, homeOf, remainderOf, split, join, sameHome, sameEntry}
+use Rattle.rules.specs.Entry.{precedes}
+use Rattle.rules.specs.Table.{occupied, leftGap, lead, rightGap, cluster, endsInChange, rising, soundRun}
+use Rattle.rules.specs.Table.{virginPlaces}
 use Rattle.rules.specs.Table.{deal, entriesBetween, clusterEntries, entryAt, entriesFrom, entries, list}
 use Rattle.rules.specs.Table.{soundAt, soundFrom, guardsVoid, sound, locked}
 use Rattle.rules.specs.Room.{roomBeside, roomFor}

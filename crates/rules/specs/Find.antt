@@ -1,5 +1,5 @@
--- Find (01, Answers and their numbers): the two guards and the key's surroundings are looked at, then its cluster's keys.
--- `soundAround`, `lockedAround` are put's too.
+-- Find (01, Answers and their numbers): the two guards and the key's surroundings are looked at, then its cluster's
+-- keys. `soundAround`, `lockedAround` are put's too.
 -- Assumes nothing.
 use Prim.Native.Nat.{ℕ, suc}
 use mathlib.Core.Bool.{Bool, cond, _&&_}
@@ -13,7 +13,8 @@ use Rattle.rules.specs.Word.{Word, isVoid}
 use Rattle.rules.specs.Bytes.{wordsOf}
 use Rattle.rules.specs.Shape.{shapeOf, keys, goodTable}
 use Rattle.rules.specs.Entry.{Entry, split}
-use Rattle.rules.specs.Table.{at, occupied, leftGap, rightGap, cluster, soundRun, clusterEntries, guardsVoid, locked}
+use Rattle.rules.specs.Table.{at, occupied, leftGap, rightGap, cluster, soundRun, clusterEntries, guardsVoid}
+use Rattle.rules.specs.Table.{locked}
 use Rattle.rules.specs.Lay.{holds}
 use Rattle.rules.specs.Answer.{Answer, says, refuses}
 

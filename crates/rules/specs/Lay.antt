@@ -32,7 +32,8 @@ unfoldable pub endsGroup : Entry → List Entry → Bool
 endsGroup e [] = true
 endsGroup e (f ∷ es) = not (sameHome e f)
 
--- entries `es` laid in order into the occupied ones of some places from place p on; `whole` are all that the table or run has
+-- entries `es` laid in order into the occupied ones of some places from place p on; `whole` are all that the table or
+-- run has
 unfoldable pub lay : List Entry → ℕ → List Bool → List Entry → List Word
 lay whole p [] es = []
 lay whole p (false ∷ os) es = zeroWord ∷ lay whole (suc p) os es

@@ -1,4 +1,5 @@
--- List (01, Answers and their numbers): the whole table is checked, then the keys are written to the front of the slots.
+-- List (01, Answers and their numbers): the whole table is checked, then the keys are written to the front of the
+-- slots.
 -- Assumes nothing.
 use Prim.Native.Nat.{ℕ}
 use mathlib.Core.Bool.{cond}
@@ -29,4 +30,7 @@ listIn sh ws slots =
 -- list (m, r, the lent table, the lent slots), with the slots as they are left
 unfoldable pub listing : ℕ → ℕ → List ℕ → List ℕ → Leaves (List ℕ)
 listing m r bytes slots =
-    cond (goodTable (shapeOf m r) (length bytes)) (listIn (shapeOf m r) (wordsOf bytes) slots) (leaves (refuses 1) slots)
+    cond
+    (goodTable (shapeOf m r) (length bytes))
+    (listIn (shapeOf m r) (wordsOf bytes) slots)
+    (leaves (refuses 1) slots)

@@ -1,5 +1,6 @@
 -- The step list (01, Tasks and their steps): one definition for each phase 1 to 12, in the paper's order.
--- Each gives the record that follows and the words, or says that the words are unsound (refusal 6). H is the home place.
+-- Each gives the record that follows and the words, or says that the words are unsound (refusal 6). H is the home
+-- place.
 -- Assumes nothing.
 use Prim.Native.Nat.{ℕ, _+_, _-_}
 use mathlib.Core.Bool.{Bool, true, false, not, cond, _&&_, _||_}

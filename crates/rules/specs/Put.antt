@@ -1,5 +1,5 @@
--- Put (01, Answers and their numbers; Where a new key goes): the cluster's keys and the new one stand in ascending order
--- over the cluster enlarged by the place that the rule names.
+-- Put (01, Answers and their numbers; Where a new key goes): the cluster's keys and the new one stand in ascending
+-- order over the cluster enlarged by the place that the rule names.
 -- Assumes nothing.
 use Prim.Native.Nat.{ℕ, suc, min}
 use mathlib.Core.Bool.{true, cond}
@@ -28,7 +28,11 @@ enlargedFrom ws home p = min p (suc (leftGap (occupied ws) home))
 
 -- the table with an absent entry added, its place to fill being p
 unfoldable pub addAt : List Word → Entry → ℕ → List Word
-addAt ws e p = sets ws (enlargedFrom ws (e .home) p) (layRun (enlargedFrom ws (e .home) p) (insert e (clusterEntries ws (e .home))))
+addAt ws e p =
+    sets
+    ws
+    (enlargedFrom ws (e .home) p)
+    (layRun (enlargedFrom ws (e .home) p) (insert e (clusterEntries ws (e .home))))
 
 -- an answer with the table unchanged, or with another table
 pub data Outcome : Type 0 where

@@ -1,4 +1,5 @@
--- The place that the rule names for a new key (01, Where a new key goes), from the occupied places and the home's place alone.
+-- The place that the rule names for a new key (01, Where a new key goes), from the occupied places and the home's
+-- place alone.
 -- Assumes nothing.
 use Prim.Native.Nat.{ℕ}
 use mathlib.Core.Bool.{Bool, false, cond}

@@ -1,5 +1,6 @@
 -- Clusters, groups, soundness and the list of a table (01, Shape and layout), by place number.
--- `cluster`, `soundRun`, `sound`: what is sound. `deal`, `entryAt`, `list`: what a table shows. `locked`: a lock anywhere.
+-- `cluster`, `soundRun`, `sound`: what is sound. `deal`, `entryAt`, `list`: what a table shows. `locked`: a lock
+-- anywhere.
 -- Assumes nothing.
 use Prim.Native.Nat.{ℕ, zero, suc, _+_, _-_}
 use mathlib.Core.Bool.{Bool, true, false, not, cond, _&&_, _||_}

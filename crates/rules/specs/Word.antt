@@ -1,5 +1,6 @@
 -- A word and its five fields (01, Shape and layout: "Bits of a word").
--- Everywhere else a word is the record of its fields; `wordOf` and `numberOf` go between it and the number in the table.
+-- Everywhere else a word is the record of its fields; `wordOf` and `numberOf` go between it and the number in the
+-- table.
 -- Assumes nothing.
 use Prim.Native.Nat.{ℕ, _+_, _*_, _/_, _%_}
 use mathlib.Core.Bool.{Bool, true, false, not, _&&_}

@@ -1,5 +1,6 @@
--- One entry more: filling an empty home, the gap left of the home's cluster, or the gap right of it, gives a table that shows the
--- entry inserted. Each fill joins what lies on both sides of the filled place into one run. No rule is chosen here.
+-- One entry more: filling an empty home, the gap left of the home's cluster, or the gap right of it, gives a table
+-- that shows the entry inserted. Each fill joins what lies on both sides of the filled place into one run. No rule is
+-- chosen here.
 -- Assumes nothing.
 use Prim.Native.Nat.{ℕ, zero, suc, _+_, _*_, _≤_, _<_}
 use mathlib.Core.Path.{_≡_, refl, sym, ap, ap₂, _∙_, subst, subst₂}
@@ -19,7 +20,8 @@ use Rattle.theory.specs.Run.{Asc, none, Run}
 use Rattle.theory.specs.Perm as perm
 use Rattle.theory.specs.Insert.{asc-weaken, asc-below, insert-asc, insert-length, insert-front, insert-back}
 use Rattle.theory.specs.Joined.{map-append, run-append}
-use Rattle.theory.specs.Seen.{Right, right-end, right-more, Left, left-start, left-more, Table, whole, left-asc, right-asc}
+use Rattle.theory.specs.Seen.{Right, right-end, right-more, Left, left-start, left-more, Table, whole, left-asc}
+use Rattle.theory.specs.Seen.{right-asc}
 use Rattle.theory.specs.Seen.{AtGap, InRun}
 use Rattle.theory.specs.Pairs.{lay-run, lay-free, all-occupied}
 use Rattle.theory.specs.RunLaws.{run-occupied}
@@ -128,7 +130,8 @@ pub record Added (d : ℕ) (ws : List Word) (es : List Entry) (e : Entry) (p : �
 pub locked-append : (u v : List Word) → locked (u ++ v) ≡ (locked u || locked v)
 unfolding locked any
 locked-append [] v = refl
-locked-append (w ∷ u) v = ap (λ (b : Bool). w .lock || b) (locked-append u v) ∙ sym (or-assoc (w .lock) (locked u) (locked v))
+locked-append (w ∷ u) v =
+    ap (λ (b : Bool). w .lock || b) (locked-append u v) ∙ sym (or-assoc (w .lock) (locked u) (locked v))
 
 pub or-parts : (a b : Bool) → (a || b) ≡ false → (a ≡ false) × (b ≡ false)
 or-parts true b e = absurd (true≢false e)
@@ -161,7 +164,9 @@ filled u g v =
     ∙ ap (λ (n : ℕ). set (occupied u ++ (g .occupied ∷ occupied v)) n true) (sym (length-map u isOccupied))
     ∙ set-append-seam (occupied u) (g .occupied) (occupied v) true
 
-run-all : {d a : ℕ} {run : List Word} {es : List Entry} (n : ℕ) → Run d a run es → length es ≡ n → occupied run ≡ replicate n true
+run-all :
+    {d a : ℕ} {run : List Word} {es : List Entry} (n : ℕ) → Run d a run es → length es ≡ n →
+    occupied run ≡ replicate n true
 run-all {run = run} n r size =
     all-occupied run (run-occupied r) ∙ ap (λ (k : ℕ). replicate k true) (sym (r .size) ∙ size)
 
@@ -190,12 +195,21 @@ add-home {d} {ws} {es} e t s low some more =
           (append-assoc (t .xs) (e ∷ []) (t .ys)
           ∙ sym (ap (insert e) (t .shown)
           ∙ insert-between (length (t .u)) (suc (length (t .u))) e [] s low (left-asc s (t .left)) at-home at-home′ (right-asc s (t .right))))
-          (seam s (left-join l (e ∷ []) s (t .left) some refl here) (omega (arith, long)) (omega (arith, long, here .size)) (t .right) more);
+          (seam
+          s
+          (left-join l (e ∷ []) s (t .left) some refl here)
+          (omega (arith, long))
+          (omega (arith, long, here .size))
+          (t .right)
+          more);
       free = λ u. replaced-free (t .u) (t .g ∷ []) (t .v) l (lay-run-free (length (t .u)) (e ∷ [])) (sym (ap locked (t .words)) ∙ u);
       places =
           occupied-append (t .u) (l ++ t .v)
-          ∙ ap (λ (os : List Bool). occupied (t .u) ++ os) (occupied-append l (t .v) ∙ ap (λ (os : List Bool). os ++ occupied (t .v)) (run-all 1 here refl))
-          ∙ sym (ap (λ (vs : List Word). set (occupied vs) (length (t .u)) true) (t .words) ∙ filled (t .u) (t .g) (t .v));
+          ∙ ap
+          (λ (os : List Bool). occupied (t .u) ++ os)
+          (occupied-append l (t .v) ∙ ap (λ (os : List Bool). os ++ occupied (t .v)) (run-all 1 here refl))
+          ∙ sym
+          (ap (λ (vs : List Word). set (occupied vs) (length (t .u)) true) (t .words) ∙ filled (t .u) (t .g) (t .v));
     }
   where
     l : List Word

@@ -1,5 +1,6 @@
--- Puts one by one: their order and their repeats do not matter, as long as there is room for all (`puts-same`), and what they leave
--- (`puts-state`). Its heart: on tables with room, putting two keys commutes (`put-swap`) and putting one twice is putting it once.
+-- Puts one by one: their order and their repeats do not matter, as long as there is room for all (`puts-same`), and
+-- what they leave (`puts-state`). Its heart: on tables with room, putting two keys commutes (`put-swap`) and putting
+-- one twice is putting it once.
 -- Assumes nothing.
 use Prim.Native.Nat.{ℕ, suc, _≤_, _<_}
 use mathlib.Core.Path.{_≡_, refl, sym, ap, ap₂, _∙_, subst}
@@ -19,8 +20,10 @@ use Rattle.rules.specs.Lay.{holds, insert, ascend}
 use Rattle.rules.specs.Put.{addAt, Outcome, putIn, wordsAfter}
 use Rattle.rules.specs.Build.{puts}
 use Rattle.theory.specs.Run.{code, Asc, none, next}
-use Rattle.theory.specs.Insert.{Within, Compared, before, same, after, compared, asc-all, asc-weaken, held-all, holds-below}
-use Rattle.theory.specs.Insert.{holds-head, same-eq, same-refl, same-not, insert-asc, insert-length, holds-insert, insert-held, insert-comm, holds-ascend}
+use Rattle.theory.specs.Insert.{Within, Compared, before, same, after, compared, asc-all, asc-weaken, held-all}
+use Rattle.theory.specs.Insert.{holds-below}
+use Rattle.theory.specs.Insert.{holds-head, same-eq, same-refl, same-not, insert-asc, insert-length}
+use Rattle.theory.specs.Insert.{holds-insert, insert-held, insert-comm, holds-ascend}
 use Rattle.theory.specs.Dealt.{or-right}
 use Rattle.theory.specs.Joined.{or-none}
 use Rattle.theory.specs.Gaps.{HomePlace}
@@ -76,7 +79,8 @@ subset-step {d} {c} {b} u us es s low up (next {e = e} {es = fs} p q r more) ins
         ∙ ap₂ _||_ v (holds-below e up (omega arith))))
     go (same l t v) = let k = ap code l in omega (arith, rest fs (suc (code e)) more (behind (omega arith)))
     go (after l t v) =
-        let le : length (e ∷ fs) ≤ length us = rest (e ∷ fs) b (next p q r more) (λ x h. held-rest x u us (apart l x h) (inside x h)) in
+        let le : length (e ∷ fs) ≤ length us =
+        rest (e ∷ fs) b (next p q r more) (λ x h. held-rest x u us (apart l x h) (inside x h)) in
         omega arith
       where
         apart : code u < code e → (x : Entry) → holds x (e ∷ fs) ≡ true → sameEntry x u ≡ false
@@ -157,56 +161,59 @@ added-state {sh} {ws} {es} {e} {p} {vs} t added =
     }
 
 -- with room for one more, a put leaves the entry inserted
-module _ {sh : Shape} {us : List Entry} {ws : List Word} {es : List Entry} (e : Entry) (u : Roomy sh us) (t : State sh ws es) where
-  es-asc : Asc (remainders sh) (length ws) 4096 es
-  es-asc = table-asc (u .low) (t .table)
+module _ {sh : Shape} {us : List Entry} {ws : List Word} {es : List Entry} (e : Entry) (u : Roomy sh us)
+    (t : State sh ws es)
+  where
+    es-asc : Asc (remainders sh) (length ws) 4096 es
+    es-asc = table-asc (u .low) (t .table)
 
-  put-found : holds e es ≡ true → Put sh ws es e ws
-  put-found h =
-      record {
-        state = subst (State sh ws) (sym (insert-held e (u .low) es-asc h)) t;
-        places = ap (filledFor sh (occupied ws) e) (sym h);
-      }
+    put-found : holds e es ≡ true → Put sh ws es e ws
+    put-found h =
+        record {
+          state = subst (State sh ws) (sym (insert-held e (u .low) es-asc h)) t;
+          places = ap (filledFor sh (occupied ws) e) (sym h);
+        }
 
-  put-inserted :
-      (p : ℕ) →
-      holds e es ≡ false →
-      roomFor sh (occupied ws) (e .home) ≡ place p →
-      Added (remainders sh) ws es e p (addAt ws e p) → Put sh ws es e (addAt ws e p)
-  unfolding fillPlaces
-  put-inserted p h room added =
-      record {
-        state = added-state t added;
-        places = added .places ∙ ap (fillAt (occupied ws)) (sym room) ∙ ap (filledFor sh (occupied ws) e) (sym h);
-      }
+    put-inserted :
+        (p : ℕ) →
+        holds e es ≡ false →
+        roomFor sh (occupied ws) (e .home) ≡ place p →
+        Added (remainders sh) ws es e p (addAt ws e p) → Put sh ws es e (addAt ws e p)
+    unfolding fillPlaces
+    put-inserted p h room added =
+        record {
+          state = added-state t added;
+          places = added .places ∙ ap (fillAt (occupied ws)) (sym room) ∙ ap (filledFor sh (occupied ws) e) (sym h);
+        }
 
-  -- there is room
-  pub put-not-full : Inside es us → holds e us ≡ true → holds e es ≡ false → roomFor sh (occupied ws) (e .home) ≡ full → ⊥
-  unfolding places rightGuard
-  put-not-full inside here h room =
-      place≢full (sym (room-place (e .home) (table-guarded sh (t .size) (t .table)) fewer .1) ∙ room)
-    where
-      wide : Asc (remainders sh) (places sh) 4096 (insert e es)
-      wide =
-          insert-asc
-          e
-          (u .low)
-          (record {
-            above = held-all e (asc-all (u .asc)) here .above;
-            low = in-low e u here;
-            inside = omega (arith, in-home e u here .last);
-          })
-          (asc-weaken (le-refl _) (le-of-eq (t .size)) es-asc)
+    -- there is room
+    pub put-not-full :
+        Inside es us → holds e us ≡ true → holds e es ≡ false → roomFor sh (occupied ws) (e .home) ≡ full → ⊥
+    unfolding places rightGuard
+    put-not-full inside here h room =
+        place≢full (sym (room-place (e .home) (table-guarded sh (t .size) (t .table)) fewer .1) ∙ room)
+      where
+        wide : Asc (remainders sh) (places sh) 4096 (insert e es)
+        wide =
+            insert-asc
+            e
+            (u .low)
+            (record {
+              above = held-all e (asc-all (u .asc)) here .above;
+              low = in-low e u here;
+              inside = omega (arith, in-home e u here .last);
+            })
+            (asc-weaken (le-refl _) (le-of-eq (t .size)) es-asc)
 
-      fewer : taken (occupied ws) < homes sh
-      fewer =
-          omega (
-            arith,
-            tight-taken (table-tight (t .table)),
-            insert-length e es h,
-            subset-length us (u .low) (u .asc) (insert e es) 4096 wide (inside-insert us es e inside here),
-            u .few,
-          )
+        fewer : taken (occupied ws) < homes sh
+        fewer =
+            omega (
+              arith,
+              tight-taken (table-tight (t .table)),
+              insert-length e es h,
+              subset-length us (u .low) (u .asc) (insert e es) 4096 wide (inside-insert us es e inside here),
+              u .few,
+            )
 
 pub put-room :
     {sh : Shape} {us : List Entry} {ws : List Word} {es : List Entry} (e : Entry) →
@@ -253,7 +260,9 @@ module _ {sh : Shape} {us : List Entry} (u : Roomy sh us) where
       here
       (holds-insert e e es ∙ ap (λ (b : Bool). b || holds e es) (same-refl e))
 
-  within-us : (e : Entry) (ws : List Word) → length ws ≡ places sh → holds e us ≡ true → Within (remainders sh) (length ws) 4096 e
+  within-us :
+      (e : Entry) (ws : List Word) → length ws ≡ places sh → holds e us ≡ true →
+      Within (remainders sh) (length ws) 4096 e
   unfolding places
   within-us e ws size here =
       record {
@@ -276,9 +285,21 @@ module _ {sh : Shape} {us : List Entry} (u : Roomy sh us) where
       state-unique
       (u .low)
       (ef .state)
-      (subst (State sh _) (insert-comm e f (u .low) (within-us e ws (t .size) e-in) (within-us f ws (t .size) f-in) (table-asc (u .low) (t .table))) (fe .state))
+      (subst
+      (State sh _)
+      (insert-comm
+      e
+      f
+      (u .low)
+      (within-us e ws (t .size) e-in)
+      (within-us f ws (t .size) f-in)
+      (table-asc (u .low) (t .table)))
+      (fe .state))
       (ef .places
-      ∙ ap₂ (λ (os : List Bool) (b : Bool). filledFor sh os f b) (pe .places ∙ ap (filledFor sh (occupied ws) e) e-new) (holds-insert f e es ∙ ap₂ _||_ apart′ f-new)
+      ∙ ap₂
+      (λ (os : List Bool) (b : Bool). filledFor sh os f b)
+      (pe .places ∙ ap (filledFor sh (occupied ws) e) e-new)
+      (holds-insert f e es ∙ ap₂ _||_ apart′ f-new)
       ∙ fills-commute (table-guarded sh (t .size) (t .table)) (in-home e u e-in) (in-home f u f-in)
       ∙ sym
       (fe .places
@@ -331,7 +352,8 @@ module _ {sh : Shape} {us : List Entry} (u : Roomy sh us) where
       turned apart = go′ (sameEntry f e) refl
         where
           go′ : (b : Bool) → sameEntry f e ≡ b → sameEntry f e ≡ false
-          go′ true k = absurd (true≢false (sym (same-refl f) ∙ ap (λ (x : Entry). sameEntry x f) (same-eq f e k) ∙ apart))
+          go′ true k =
+              absurd (true≢false (sym (same-refl f) ∙ ap (λ (x : Entry). sameEntry x f) (same-eq f e k) ∙ apart))
           go′ false k = k
 
       go :
@@ -378,7 +400,9 @@ module _ {sh : Shape} {us : List Entry} (u : Roomy sh us) where
       go true b x y rest = refl
       go false true x y rest =
           let l : k ≡ j = same-eq k j y in
-          ap (λ (vs : List Word). puts sh vs js) (ap (λ (i : Entry). after-put sh (after-put sh ws i) j) l ∙ put-twice j t inside j-in)
+          ap
+          (λ (vs : List Word). puts sh vs js)
+          (ap (λ (i : Entry). after-put sh (after-put sh ws i) j) l ∙ put-twice j t inside j-in)
       go false false x y rest = ap (λ (vs : List Word). puts sh vs js) (put-swap k j t inside k-in j-in) ∙ rest
 
   -- puts in the given order are puts in ascending order, each key once
@@ -388,7 +412,13 @@ module _ {sh : Shape} {us : List Entry} (u : Roomy sh us) where
   unfolding puts ascend holds any
   puts-ascend [] ws es t inside ks-in = refl
   puts-ascend (k ∷ ks) ws es t inside ks-in =
-      puts-ascend ks (after-put sh ws k) (insert k es) (put-room k u t inside k-in .state) (inside-insert us es k inside k-in) rest-in
+      puts-ascend
+      ks
+      (after-put sh ws k)
+      (insert k es)
+      (put-room k u t inside k-in .state)
+      (inside-insert us es k inside k-in)
+      rest-in
       ∙ puts-insert k (ascend ks) ws es t inside k-in (λ x h. rest-in x (sym (holds-ascend x ks) ∙ h))
     where
       k-in : holds k us ≡ true
@@ -428,7 +458,8 @@ module _ {sh : Shape} {us : List Entry} (u : Roomy sh us) where
       regroup true false c = refl
       regroup false b c = refl
 
-      further : Left ks (insert k es) (puts sh (after-put sh ws k) ks) → Left (k ∷ ks) es (puts sh (after-put sh ws k) ks)
+      further :
+          Left ks (insert k es) (puts sh (after-put sh ws k) ks) → Left (k ∷ ks) es (puts sh (after-put sh ws k) ks)
       further l =
           record {
             shown = l .shown;

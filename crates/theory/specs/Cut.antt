@@ -9,7 +9,8 @@ use mathlib.Core.List.{List, [], _∷_, _++_, append-assoc}
 use native.Mathlib.Omega.{arith}
 use lib.ListN.{length, getD, take, drop}
 use lib.Dec.{leb}
-use lib.Seq.{slice, slice-cons, length-take-le, take-suc, drop-cons, split-at, drop-append-le, length-slice, getD-drop, getD-take}
+use lib.Seq.{slice, slice-cons, length-take-le, take-suc, drop-cons, split-at, drop-append-le, length-slice}
+use lib.Seq.{getD-drop, getD-take}
 use borrow.Author.Tests.{leb-true, leb-false}
 use Rattle.rules.specs.declared.Shape.{Shape}
 use Rattle.rules.specs.Lists.{all}
@@ -17,7 +18,8 @@ use Rattle.rules.specs.Word.{Word, zeroWord, isVoid}
 use Rattle.rules.specs.Shape.{places, rightGuard}
 use Rattle.rules.specs.Table.{at, occupied, leftGap, rightGap, between, guardsVoid}
 use Rattle.theory.specs.Dealt.{isOccupied, and-left, and-right, and-both}
-use Rattle.theory.specs.Gaps.{Side, Free, Taken, TakenFrom, Guarded, HomePlace, Gap, gap-is, gap-first, gap-below, gap-above}
+use Rattle.theory.specs.Gaps.{Side, Free, Taken, TakenFrom, Guarded, HomePlace, Gap, gap-is, gap-first}
+use Rattle.theory.specs.Gaps.{gap-below, gap-above}
 use Rattle.theory.specs.Gaps as gaps
 use Rattle.theory.specs.Places.{void-free, occupied-at, occupied-length}
 use Rattle.theory.specs.Side.{beside, begins, stands}

@@ -1,5 +1,6 @@
--- Homes, words and entries of a sound run side by side: `Dealt hs ws es` says that dealing the homes hs to the groups of ws gives es.
--- From the Boolean rules to `Dealt` and back; then what both directions of "a run is what laying its entries gives" need.
+-- Homes, words and entries of a sound run side by side: `Dealt hs ws es` says that dealing the homes hs to the groups
+-- of ws gives es. From the Boolean rules to `Dealt` and back; then what both directions of "a run is what laying its
+-- entries gives" need.
 -- Assumes nothing.
 use Prim.Native.Nat.{ℕ, suc, _+_, _*_, _≤_, _<_}
 use mathlib.Core.Path.{_≡_, refl, sym, ap, ap₂, _∙_}
@@ -148,7 +149,8 @@ dealt-deal (dealt-ends {h = h} {hs = hs} {w = w} {ws = ws} c l p q rest) =
 dealt-deal (dealt-goes {h = h} {hs = hs} {w = w} {v = v} {ws = ws} c l r p q rest) =
     deal-cons h hs w (v ∷ ws) false c ∙ ap₂ _∷_ (entry-path (sym p) (sym q)) (dealt-deal rest)
 
-pub dealt-count : {d : ℕ} {hs : List ℕ} {ws : List Word} {es : List Entry} → Dealt d hs ws es → count isChange ws ≡ length hs
+pub dealt-count :
+    {d : ℕ} {hs : List ℕ} {ws : List Word} {es : List Entry} → Dealt d hs ws es → count isChange ws ≡ length hs
 unfolding count
 dealt-count dealt-none = refl
 dealt-count (dealt-ends c l p q rest) = omega (arith, ap bitOf c, dealt-count rest)
@@ -159,13 +161,16 @@ dealt-size dealt-none = refl
 dealt-size (dealt-ends c l p q rest) = ap suc (dealt-size rest)
 dealt-size (dealt-goes c l r p q rest) = ap suc (dealt-size rest)
 
-ends-cons : (w : Word) {d : ℕ} {hs : List ℕ} {ws : List Word} {es : List Entry} → w .change ≡ true → Dealt d hs ws es → endsInChange ws ≡ true → endsInChange (w ∷ ws) ≡ true
+ends-cons :
+    (w : Word) {d : ℕ} {hs : List ℕ} {ws : List Word} {es : List Entry} → w .change ≡ true → Dealt d hs ws es →
+    endsInChange ws ≡ true → endsInChange (w ∷ ws) ≡ true
 unfolding endsInChange
 ends-cons w c dealt-none ends = c
 ends-cons w c (dealt-ends c₁ l₁ p₁ q₁ rest) ends = ends
 ends-cons w c (dealt-goes c₁ l₁ r₁ p₁ q₁ rest) ends = ends
 
-pub dealt-ends-in-change : {d : ℕ} {hs : List ℕ} {ws : List Word} {es : List Entry} → Dealt d hs ws es → endsInChange ws ≡ true
+pub dealt-ends-in-change :
+    {d : ℕ} {hs : List ℕ} {ws : List Word} {es : List Entry} → Dealt d hs ws es → endsInChange ws ≡ true
 unfolding endsInChange
 dealt-ends-in-change dealt-none = refl
 dealt-ends-in-change (dealt-ends {w = w} c l p q rest) = ends-cons w c rest (dealt-ends-in-change rest)
@@ -177,7 +182,9 @@ dealt-low dealt-none = refl
 dealt-low (dealt-ends c l p q rest) = and-both _ _ (lt-ltb _ _ l) (dealt-low rest)
 dealt-low (dealt-goes c l r p q rest) = and-both _ _ (lt-ltb _ _ l) (dealt-low rest)
 
-rises-cons : (w : Word) {d : ℕ} {hs : List ℕ} {ws : List Word} {es : List Entry} → w .change ≡ true → Dealt d hs ws es → rising ws ≡ true → rising (w ∷ ws) ≡ true
+rises-cons :
+    (w : Word) {d : ℕ} {hs : List ℕ} {ws : List Word} {es : List Entry} → w .change ≡ true → Dealt d hs ws es →
+    rising ws ≡ true → rising (w ∷ ws) ≡ true
 unfolding rising
 rises-cons w c dealt-none rise = refl
 rises-cons w c (dealt-ends c₁ l₁ p₁ q₁ rest) rise = and-both _ _ (or-left _ _ c) rise
@@ -278,14 +285,16 @@ word-path p q r s t = λ i. record { remainder = p i; occupied = q i; virgin = r
 abbrev pub Virgins : List Entry → ℕ → List Word → Type 0
 Virgins whole q ws = (i : ℕ) → i < length ws → hasHome whole (q + i) ≡ getD ws i zeroWord .virgin
 
-virgins-tail : (whole : List Entry) (q : ℕ) (w : Word) (ws : List Word) → Virgins whole q (w ∷ ws) → Virgins whole (suc q) ws
+virgins-tail :
+    (whole : List Entry) (q : ℕ) (w : Word) (ws : List Word) → Virgins whole q (w ∷ ws) → Virgins whole (suc q) ws
 virgins-tail whole q w ws v i lt =
     ap (hasHome whole) (plus q i) ∙ v (suc i) (omega arith)
   where
     plus : (q i : ℕ) → suc q + i ≡ q + suc i
     plus q i = omega arith
 
-virgins-head : (whole : List Entry) (q : ℕ) (w : Word) (ws : List Word) → Virgins whole q (w ∷ ws) → hasHome whole q ≡ w .virgin
+virgins-head :
+    (whole : List Entry) (q : ℕ) (w : Word) (ws : List Word) → Virgins whole q (w ∷ ws) → hasHome whole q ≡ w .virgin
 virgins-head whole q w ws v = ap (hasHome whole) (sym (add-zero q)) ∙ v 0 (omega arith)
 
 -- laying the dealt entries gives the words back, lock bits aside
@@ -315,4 +324,10 @@ dealt-lay whole q (dealt-goes {w = w} {v = v} {ws = ws} {e = e} {f = f} ch l b p
     (virgins-head whole q w (v ∷ ws) vs)
     (stays-group e f _ (omega (arith, dealt-head rest)) ∙ sym ch)
     refl)
-    (dealt-lay whole (suc q) rest (rising-next k lt up) (and-right (w .occupied) _ occ) (virgins-tail whole q w (v ∷ ws) vs))
+    (dealt-lay
+    whole
+    (suc q)
+    rest
+    (rising-next k lt up)
+    (and-right (w .occupied) _ occ)
+    (virgins-tail whole q w (v ∷ ws) vs))

@@ -1,5 +1,5 @@
--- What find and put look at, on a table: the surroundings of a key's home are sound, unlocked where the table is, and the cluster
--- there has the key exactly if the table has it. Hence find on a table.
+-- What find and put look at, on a table: the surroundings of a key's home are sound, unlocked where the table is, and
+-- the cluster there has the key exactly if the table has it. Hence find on a table.
 -- Assumes nothing.
 use Prim.Native.Nat.{ℕ, zero, suc, _+_, _≤_, _<_}
 use mathlib.Core.Path.{_≡_, refl, sym, ap, ap₂, _∙_, subst, subst₂}
@@ -137,12 +137,28 @@ run-surroundings sh {ws} {es} e s low guards free t =
           (run-right (t .u) (t .g) (t .run) (t .h) (t .v) empty taken hollow start (e .home) (t .after) (t .before))
           (run-cluster (t .u) (t .g) (t .run) (t .h) (t .v) empty taken hollow start (e .home) (t .after) (t .before))
           (ap isVoid (at-seam (t .u) (t .g) (t .run ++ (t .h ∷ t .v))) ∙ t .void)
-          (ap isVoid (at-after (t .u) (t .g) (t .run ++ (t .h ∷ t .v)) (length (t .run)) ∙ at-seam (t .run) (t .h) (t .v)) ∙ t .hollow)
+          (ap
+          isVoid
+          (at-after (t .u) (t .g) (t .run ++ (t .h ∷ t .v)) (length (t .run)) ∙ at-seam (t .run) (t .h) (t .v))
+          ∙ t .hollow)
           (run-is-sound sh s (t .inside)));
       same =
           ap (λ (xs : List Word). holds e (clusterEntries xs (e .home))) (t .words)
           ∙ ap (holds e)
-          (run-cluster-entries (t .u) (t .g) (t .run) (t .h) (t .v) empty taken hollow start (e .home) (t .after) (t .before) ∙ run-entries s (t .inside))
+          (run-cluster-entries
+          (t .u)
+          (t .g)
+          (t .run)
+          (t .h)
+          (t .v)
+          empty
+          taken
+          hollow
+          start
+          (e .home)
+          (t .after)
+          (t .before)
+          ∙ run-entries s (t .inside))
           ∙ sym
           (ap (holds e) (t .shown)
           ∙ holds-append e (t .xs) (t .ys ++ t .zs)
@@ -189,7 +205,9 @@ any-take f zero ws h = refl
 any-take f (suc n) [] h = refl
 any-take f (suc n) (w ∷ ws) h = go (f w) refl h (any-take f n ws)
   where
-    go : (b : Bool) → f w ≡ b → (b || any f ws) ≡ false → (any f ws ≡ false → any f (take n ws) ≡ false) → (f w || any f (take n ws)) ≡ false
+    go :
+        (b : Bool) → f w ≡ b → (b || any f ws) ≡ false → (any f ws ≡ false → any f (take n ws) ≡ false) →
+        (f w || any f (take n ws)) ≡ false
     go true e t rest = absurd (true≢false t)
     go false e t rest = ap₂ _||_ e (rest t)
 

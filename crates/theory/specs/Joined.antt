@@ -1,4 +1,5 @@
--- Runs side by side: what laying gives for entries one after the other, and that two adjoining runs are one (`run-append`).
+-- Runs side by side: what laying gives for entries one after the other, and that two adjoining runs are one
+-- (`run-append`).
 -- Assumes nothing.
 use Prim.Native.Nat.{ℕ, suc, _+_, _*_, _≤_, _<_}
 use mathlib.Core.Path.{_≡_, refl, sym, ap, ap₂, _∙_, subst}

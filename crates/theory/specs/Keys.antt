@@ -1,4 +1,5 @@
--- From entries back to keys: the list of a table ascends, stays below 2^w, and has a key exactly if the table holds its entry.
+-- From entries back to keys: the list of a table ascends, stays below 2^w, and has a key exactly if the table holds
+-- its entry.
 -- Assumes nothing.
 use Prim.Native.Nat.{ℕ, suc, _+_, _-_, _*_, _≤_, _<_}
 use mathlib.Core.Path.{_≡_, refl, sym, ap, ap₂, _∙_, subst}
@@ -71,7 +72,9 @@ join-order :
 unfolding join homeOfPlace
 join-order sh e f s i j lt = go (eqb (e .home) (f .home)) refl
   where
-    go : (b : Bool) → eqb (e .home) (f .home) ≡ b → (e .home - 1) * remainders sh + e .remainder < (f .home - 1) * remainders sh + f .remainder
+    go :
+        (b : Bool) → eqb (e .home) (f .home) ≡ b →
+        (e .home - 1) * remainders sh + e .remainder < (f .home - 1) * remainders sh + f .remainder
     go true k =
         let h = eqb-true (e .home) (f .home) k in
         let same : e .home - 1 ≡ f .home - 1 = omega arith in
@@ -79,7 +82,8 @@ join-order sh e f s i j lt = go (eqb (e .home) (f .home)) refl
     go false k =
         let apart = eqb-false (e .home) (f .home) k in
         let lower : suc (e .home - 1) ≤ f .home - 1 = omega (arith, i .home-low, i .remainder-low, j .remainder-low) in
-        let scaled : suc (e .home - 1) * remainders sh ≤ (f .home - 1) * remainders sh = mul-le-mul-right (remainders sh) lower in
+        let scaled : suc (e .home - 1) * remainders sh ≤ (f .home - 1) * remainders sh =
+        mul-le-mul-right (remainders sh) lower in
         omega (arith, suc-mul (e .home - 1) (remainders sh), i .remainder-low)
 
 pub keys-ascend :
@@ -105,7 +109,8 @@ pub listed-holds :
     key < keys sh → All (InShape sh) es → listed key (map (join sh) es) ≡ holds (split sh key) es
 unfolding listed holds any
 listed-holds sh key lt perm.none = refl
-listed-holds sh key lt (perm.both {x = e} i is) = ap₂ _||_ (go (sameEntry (split sh key) e) refl) (listed-holds sh key lt is)
+listed-holds sh key lt (perm.both {x = e} i is) =
+    ap₂ _||_ (go (sameEntry (split sh key) e) refl) (listed-holds sh key lt is)
   where
     go : (b : Bool) → sameEntry (split sh key) e ≡ b → eqb key (join sh e) ≡ sameEntry (split sh key) e
     go true t = eq-eqb key (join sh e) (sym (join-split sh key) ∙ ap (join sh) (same-eq (split sh key) e t)) ∙ sym t

@@ -1,6 +1,6 @@
 -- The theory of sound tables, over the definitions of the crate rules.
--- Run to Seen: a table as runs between void words, and lists of entries. Gaps, Order, Places, Cut: occupied places and fills.
--- SoundTable, Pairs: sound tables are tight pairs, laid. Finding to Keys: find, put, build and the list.
+-- Run to Seen: a table as runs between void words, and lists of entries. Gaps, Order, Places, Cut: occupied places
+-- and fills. SoundTable, Pairs: sound tables are tight pairs, laid. Finding to Keys: find, put, build and the list.
 -- Motion to Moving: fill, moves and mark give the laid table.
 pub mod Run
 pub mod Dealt

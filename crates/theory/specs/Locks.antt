@@ -12,7 +12,8 @@ use Rattle.rules.specs.Word.{Word, zeroWord, isVoid}
 use Rattle.rules.specs.Entry.{Entry, join}
 use Rattle.rules.specs.Shape.{remainders, rightGuard}
 use Rattle.rules.specs.Table.{at, occupied, leftGap, rightGap, between, cluster, endsInChange, rising, soundRun}
-use Rattle.rules.specs.Table.{virginPlaces, front, due, deal, entriesBetween, clusterEntries, entryAt, entriesFrom, entries}
+use Rattle.rules.specs.Table.{virginPlaces, front, due, deal, entriesBetween, clusterEntries, entryAt, entriesFrom}
+use Rattle.rules.specs.Table.{entries}
 use Rattle.rules.specs.Table.{list, soundAt, soundFrom, sound}
 use Rattle.theory.specs.Run.{unlock}
 use Rattle.theory.specs.Dealt.{isChange, isVirgin, isLow}
@@ -39,7 +40,8 @@ rising-unlock : (ws : List Word) → rising (map unlock ws) ≡ rising ws
 unfolding rising
 rising-unlock [] = refl
 rising-unlock (w ∷ []) = refl
-rising-unlock (w ∷ v ∷ ws) = ap (λ (b : Bool). (w .change || ltb (w .remainder) (v .remainder)) && b) (rising-unlock (v ∷ ws))
+rising-unlock (w ∷ v ∷ ws) =
+    ap (λ (b : Bool). (w .change || ltb (w .remainder) (v .remainder)) && b) (rising-unlock (v ∷ ws))
 
 pub sound-run-unlock : (sh : Shape) (ws : List Word) → soundRun sh (map unlock ws) ≡ soundRun sh ws
 unfolding soundRun

@@ -1,6 +1,6 @@
--- The one idea of the theory: a sound unlocked table is its occupied places and its entries. `Tight` says which pairs are those of tables;
--- A (`table-tight`, `table-lay`): a table has a tight pair, and laying the pair gives the table. B (`lay-table`, `lay-occupied`): laying
--- a tight pair gives a table with that pair.
+-- The one idea of the theory: a sound unlocked table is its occupied places and its entries. `Tight` says which pairs
+-- are those of tables; A (`table-tight`, `table-lay`): a table has a tight pair, and laying the pair gives the table.
+-- B (`lay-table`, `lay-occupied`): laying a tight pair gives a table with that pair.
 -- Assumes nothing.
 use Prim.Native.Nat.{ℕ, zero, suc, _+_, _*_, _≤_, _<_}
 use mathlib.Core.Path.{_≡_, refl, sym, ap, ap₂, _∙_, subst}
@@ -21,12 +21,14 @@ use Rattle.theory.specs.Run.{Asc, none, unlock, Run}
 use Rattle.theory.specs.Dealt.{isOccupied, and-left, and-right, word-path}
 use Rattle.theory.specs.Order.{taken}
 use Rattle.theory.specs.Insert.{asc-weaken, asc-append, asc-below}
-use Rattle.theory.specs.Joined.{map-append, has-home-append, has-home-left, has-home-right, lay-append, lay-whole, or-none}
+use Rattle.theory.specs.Joined.{map-append, has-home-append, has-home-left, has-home-right, lay-append}
+use Rattle.theory.specs.Joined.{lay-whole, or-none}
 use Rattle.theory.specs.RunLaws.{run-occupied}
 use Rattle.theory.specs.Places.{void-free}
 use Rattle.theory.specs.Seen.{Right, right-end, right-more, Table, table, right-asc}
 
--- the places from p on, right of an empty one: each cluster of n places holds n ascending entries, each with its home inside the cluster
+-- the places from p on, right of an empty one: each cluster of n places holds n ascending entries, each with its home
+-- inside the cluster
 pub data TightFrom (d : ℕ) : ℕ → List Bool → List Entry → Type 0 where
   tight-end : {p : ℕ} {os : List Bool} {es : List Entry} → os ≡ [] → es ≡ [] → TightFrom d p os es
   tight-more :
@@ -123,9 +125,13 @@ right-lay :
     {d p : ℕ} {ws : List Word} {es : List Entry} (whole : List Entry) →
     d ≤ 4096 → Right d p ws es → HomesFrom whole p es → lay whole p (occupied ws) es ≡ map unlock ws
 unfolding occupied lay layRun
-right-lay {p = p} whole s (right-end e f) same = ap₂ (λ (os : List Bool) (es : List Entry). lay whole p os es) (ap occupied e) f ∙ ap (map unlock) (sym e)
+right-lay {p = p} whole s (right-end e f) same =
+    ap₂ (λ (os : List Bool) (es : List Entry). lay whole p os es) (ap occupied e) f ∙ ap (map unlock) (sym e)
 right-lay {d} {p} whole s (right-more run g v xs ys r void rest e f) same =
-    ap₂ (λ (os : List Bool) (es : List Entry). lay whole p os es) (ap occupied e ∙ span-occupied g v r (void-free g void)) f
+    ap₂
+    (λ (os : List Bool) (es : List Entry). lay whole p os es)
+    (ap occupied e ∙ span-occupied g v r (void-free g void))
+    f
     ∙ lay-append
     whole
     p
@@ -166,14 +172,17 @@ table-lay {es = es} s (table {g = g} {v = v} void right) =
 
 -- ---- B
 -- what is laid is unlocked
-lay-unlocked : (whole : List Entry) (p : ℕ) (os : List Bool) (es : List Entry) → map unlock (lay whole p os es) ≡ lay whole p os es
+lay-unlocked :
+    (whole : List Entry) (p : ℕ) (os : List Bool) (es : List Entry) →
+    map unlock (lay whole p os es) ≡ lay whole p os es
 unfolding lay
 lay-unlocked whole p [] es = refl
 lay-unlocked whole p (false ∷ os) es = ap (λ (ws : List Word). zeroWord ∷ ws) (lay-unlocked whole (suc p) os es)
 lay-unlocked whole p (true ∷ os) [] = ap (λ (ws : List Word). zeroWord ∷ ws) (lay-unlocked whole (suc p) os [])
 lay-unlocked whole p (true ∷ os) (e ∷ es) = ap₂ _∷_ refl (lay-unlocked whole (suc p) os es)
 
-pub lay-length : (whole : List Entry) (p : ℕ) (os : List Bool) (es : List Entry) → length (lay whole p os es) ≡ length os
+pub lay-length :
+    (whole : List Entry) (p : ℕ) (os : List Bool) (es : List Entry) → length (lay whole p os es) ≡ length os
 unfolding lay
 lay-length whole p [] es = refl
 lay-length whole p (false ∷ os) es = ap suc (lay-length whole (suc p) os es)
@@ -194,7 +203,10 @@ tight-asc {d} {p} {os} s (tight-more rest xs ys up more e f) =
     (asc-weaken (omega arith) (omega (arith, long)) (tight-asc s more)))
   where
     long : length os ≡ length xs + suc (length rest)
-    long = ap length e ∙ length-append (replicate (length xs) true) (false ∷ rest) ∙ ap (λ (n : ℕ). n + suc (length rest)) (length-replicate (length xs) true)
+    long =
+        ap length e
+        ∙ length-append (replicate (length xs) true) (false ∷ rest)
+        ∙ ap (λ (n : ℕ). n + suc (length rest)) (length-replicate (length xs) true)
 
 -- some entries laid over as many places, as a run
 pub lay-run :

@@ -7,7 +7,8 @@ use mathlib.Core.Bool.{Bool, true, false, not, _&&_}
 use mathlib.Core.List.{List, [], _∷_, _++_, append-assoc}
 use native.Mathlib.Omega.{arith}
 use native.Mathlib.Nat.{le-refl}
-use lib.ListN.{length, getD, take, drop, length-append, length-take, drop-of-length-le, List·getD-append, List·getD-map, length-map}
+use lib.ListN.{length, getD, take, drop, length-append, length-take, drop-of-length-le, List·getD-append}
+use lib.ListN.{List·getD-map, length-map}
 use lib.Dec.{eqb}
 use lib.Seq.{slice, getD-append-seam, getD-append-add, take-append-add, take-append-seam, drop-append-seam}
 use Rattle.rules.specs.Lists.{all}
@@ -65,44 +66,53 @@ slice-part :
     (xs ys zs : List Word) (l r : ℕ) → l ≡ length xs → r ≡ length xs + length ys → slice l r (xs ++ (ys ++ zs)) ≡ ys
 slice-part xs ys zs l r p q =
     ap₂ (λ (a b : ℕ). slice a b (xs ++ (ys ++ zs))) p q
-    ∙ ap (drop (length xs)) (take-append-add xs (ys ++ zs) (length ys) ∙ ap (λ (t : List Word). xs ++ t) (take-append-seam ys zs))
+    ∙ ap
+    (drop (length xs))
+    (take-append-add xs (ys ++ zs) (length ys) ∙ ap (λ (t : List Word). xs ++ t) (take-append-seam ys zs))
     ∙ drop-append-seam xs ys
 
 -- ---- an unoccupied place
-module _ (u : List Word) (g : Word) (v : List Word) (empty : g .occupied ≡ false) (origin : at (u ++ (g ∷ v)) 0 .occupied ≡ false) where
-  gap-free : Free (occupied (u ++ (g ∷ v))) (length u)
-  gap-free = occupied-at (u ++ (g ∷ v)) (length u) ∙ ap isOccupied (at-seam u g v) ∙ empty
+module _ (u : List Word) (g : Word) (v : List Word) (empty : g .occupied ≡ false)
+    (origin : at (u ++ (g ∷ v)) 0 .occupied ≡ false)
+  where
+    gap-free : Free (occupied (u ++ (g ∷ v))) (length u)
+    gap-free = occupied-at (u ++ (g ∷ v)) (length u) ∙ ap isOccupied (at-seam u g v) ∙ empty
 
-  pub gap-left : leftGap (occupied (u ++ (g ∷ v))) (length u) ≡ length u
-  gap-left =
-      gap-only
-      gaps.left
-      (leftGap-is (occupied (u ++ (g ∷ v))) (length u) (occupied-at (u ++ (g ∷ v)) 0 ∙ origin))
-      (record { side = le-refl _; free = gap-free; run = λ q x y n. absurd (n (omega arith)) })
+    pub gap-left : leftGap (occupied (u ++ (g ∷ v))) (length u) ≡ length u
+    gap-left =
+        gap-only
+        gaps.left
+        (leftGap-is (occupied (u ++ (g ∷ v))) (length u) (occupied-at (u ++ (g ∷ v)) 0 ∙ origin))
+        (record { side = le-refl _; free = gap-free; run = λ q x y n. absurd (n (omega arith)) })
 
-  pub gap-right : rightGap (occupied (u ++ (g ∷ v))) (length u) ≡ length u
-  gap-right =
-      gap-only
-      gaps.right
-      (rightGap-is (occupied (u ++ (g ∷ v))) (length u))
-      (record { side = le-refl _; free = gap-free; run = λ q x y n. absurd (n (omega arith)) })
+    pub gap-right : rightGap (occupied (u ++ (g ∷ v))) (length u) ≡ length u
+    gap-right =
+        gap-only
+        gaps.right
+        (rightGap-is (occupied (u ++ (g ∷ v))) (length u))
+        (record { side = le-refl _; free = gap-free; run = λ q x y n. absurd (n (omega arith)) })
 
-  pub gap-cluster : cluster (u ++ (g ∷ v)) (length u) ≡ []
-  unfolding cluster
-  gap-cluster =
-      ap₂ (λ (l r : ℕ). between (u ++ (g ∷ v)) l r) gap-left gap-right
-      ∙ drop-of-length-le (take (length u) (u ++ (g ∷ v))) {i = suc (length u)} (omega (arith, length-take (length u) (u ++ (g ∷ v))))
+    pub gap-cluster : cluster (u ++ (g ∷ v)) (length u) ≡ []
+    unfolding cluster
+    gap-cluster =
+        ap₂ (λ (l r : ℕ). between (u ++ (g ∷ v)) l r) gap-left gap-right
+        ∙ drop-of-length-le
+        (take (length u) (u ++ (g ∷ v)))
+        {i = suc (length u)}
+        (omega (arith, length-take (length u) (u ++ (g ∷ v))))
 
-  pub gap-entries : clusterEntries (u ++ (g ∷ v)) (length u) ≡ []
-  unfolding clusterEntries entriesBetween cluster deal virginPlaces
-  gap-entries =
-      ap (λ (ws : List Word). deal (virginPlaces (suc (leftGap (occupied (u ++ (g ∷ v))) (length u))) ws) ws) gap-cluster
+    pub gap-entries : clusterEntries (u ++ (g ∷ v)) (length u) ≡ []
+    unfolding clusterEntries entriesBetween cluster deal virginPlaces
+    gap-entries =
+        ap
+        (λ (ws : List Word). deal (virginPlaces (suc (leftGap (occupied (u ++ (g ∷ v))) (length u))) ws) ws)
+        gap-cluster
 
-  pub gap-around : around (u ++ (g ∷ v)) (length u) ≡ g ∷ []
-  unfolding around
-  gap-around =
-      ap₂ (λ (l r : ℕ). slice l (suc r) (u ++ (g ∷ v))) gap-left gap-right
-      ∙ slice-part u (g ∷ []) v (length u) (suc (length u)) refl (omega arith)
+    pub gap-around : around (u ++ (g ∷ v)) (length u) ≡ g ∷ []
+    unfolding around
+    gap-around =
+        ap₂ (λ (l r : ℕ). slice l (suc r) (u ++ (g ∷ v))) gap-left gap-right
+        ∙ slice-part u (g ∷ []) v (length u) (suc (length u)) refl (omega arith)
 
 -- ---- a place of a run
 module _ (u : List Word) (g : Word) (run : List Word) (h : Word) (v : List Word)
@@ -118,7 +128,9 @@ module _ (u : List Word) (g : Word) (run : List Word) (h : Word) (v : List Word)
     run-taken q low high =
         occupied-at ws q
         ∙ ap (λ (p : ℕ). at ws p .occupied) (sym place)
-        ∙ ap isOccupied (at-after u g (run ++ (h ∷ v)) (q - suc (length u)) ∙ at-left run (h ∷ v) (q - suc (length u)) (omega arith))
+        ∙ ap
+        isOccupied
+        (at-after u g (run ++ (h ∷ v)) (q - suc (length u)) ∙ at-left run (h ∷ v) (q - suc (length u)) (omega arith))
         ∙ all-at isOccupied run (q - suc (length u)) taken (omega arith)
       where
         place : suc (length u) + (q - suc (length u)) ≡ q
@@ -135,7 +147,9 @@ module _ (u : List Word) (g : Word) (run : List Word) (h : Word) (v : List Word)
           run = λ q x y n. run-taken q (omega (arith, n)) (omega arith);
         })
 
-    pub run-right : (p : ℕ) → length u < p → p < suc (length u) + length run → rightGap (occupied ws) p ≡ suc (length u) + length run
+    pub run-right :
+        (p : ℕ) → length u < p → p < suc (length u) + length run →
+        rightGap (occupied ws) p ≡ suc (length u) + length run
     run-right p low high =
         gap-only
         gaps.right

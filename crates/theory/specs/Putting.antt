@@ -1,5 +1,5 @@
--- Put on an unlocked table: a shown key is found, a full table is full, and otherwise the key is added at the place that the rule
--- names. `Puts` has the cases; `put-table` says which holds.
+-- Put on an unlocked table: a shown key is found, a full table is full, and otherwise the key is added at the place
+-- that the rule names. `Puts` has the cases; `put-table` says which holds.
 -- Assumes nothing.
 use Prim.Native.Nat.{ℕ, suc, _+_, _≤_, _<_}
 use mathlib.Core.Path.{_≡_, refl, sym, ap, ap₂, _∙_, subst, subst₂}
@@ -237,7 +237,8 @@ pub table-guarded :
     length ws ≡ places sh → Table (remainders sh) ws es → Guarded sh (occupied ws)
 table-guarded sh {ws} size t = void-guarded sh ws size (table-guards sh size t)
 
--- a gap on the left that is not the left guard has words before it; one on the right that is not the right guard has words after it
+-- a gap on the left that is not the left guard has words before it; one on the right that is not the right guard has
+-- words after it
 words-after :
     (sh : Shape) (u : List Word) (g : Word) (v ws : List Word) →
     ws ≡ u ++ (g ∷ v) → length ws ≡ places sh → (length u ≡ rightGuard sh → ⊥) → 0 < length v
@@ -275,7 +276,14 @@ module _ (sh : Shape) {ws : List Word} {es : List Entry} (e : Entry)
             Free (occupied ws) (e .home) → roomFor sh (occupied ws) (e .home) ≡ r → Puts sh ws es e (addTo ws e r)
         go (gaps.home f) free at-home =
             inserted (e .home) absent at-home
-            (added-home e x s low (origin t) (omega (arith, x .here, k .first)) (words-after sh (x .u) (x .g) (x .v) ws (x .words) size far))
+            (added-home
+            e
+            x
+            s
+            low
+            (origin t)
+            (omega (arith, x .here, k .first))
+            (words-after sh (x .u) (x .g) (x .v) ws (x .words) size far))
         go (gaps.first y n) free at-home = absurd (true≢false (sym y ∙ free))
         go (gaps.second y a b) free at-home = absurd (true≢false (sym y ∙ free))
         go (gaps.none y a b) free at-home = absurd (true≢false (sym y ∙ free))
@@ -314,7 +322,11 @@ module _ (sh : Shape) {ws : List Word} {es : List Entry} (e : Entry)
             roomFor sh (occupied ws) (e .home) ≡ r → Puts sh ws es e (addTo ws e r)
         go (gaps.home f) at-home = absurd (true≢false (sym (look .taken) ∙ f))
         go (gaps.first y n) at-home =
-            inserted (leftGap (occupied ws) (e .home)) absent at-home (added-left e x look s low not-here (omega (arith, look .left, n)))
+            inserted
+            (leftGap (occupied ws) (e .home))
+            absent
+            at-home
+            (added-left e x look s low not-here (omega (arith, look .left, n)))
         go (gaps.second y a n) at-home =
             inserted (rightGap (occupied ws) (e .home)) absent at-home (added-right e x look s low not-here (more n))
         go (gaps.none y a b) at-home = overflow absent at-home
@@ -337,11 +349,16 @@ pub put-table :
     Table (remainders sh) ws es → locked ws ≡ false → Puts sh ws es e (putIn sh ws e)
 unfolding putIn
 put-table sh {ws} {es} e s size k low t free =
-    subst (Puts sh ws es e) (sym (rw (look .sound, around-free ws (e .home) free, look .same) refl)) (go (holds e es) refl)
+    subst
+    (Puts sh ws es e)
+    (sym (rw (look .sound, around-free ws (e .home) free, look .same) refl))
+    (go (holds e es) refl)
   where
     look : Surroundings sh ws es e
     look = surroundings sh e s size k low t
 
-    go : (b : Bool) → holds e es ≡ b → Puts sh ws es e (cond b (keeps (says 1)) (addTo ws e (roomFor sh (occupied ws) (e .home))))
+    go :
+        (b : Bool) → holds e es ≡ b →
+        Puts sh ws es e (cond b (keeps (says 1)) (addTo ws e (roomFor sh (occupied ws) (e .home))))
     go true h = found h
     go false h = puts-absent sh e s size k low t h

@@ -1,5 +1,6 @@
--- What a run of occupied words is, seen from its entries: ascending, each home inside the run, and the words what laying them gives.
--- Lock bits are aside. `d` is the number of remainders, at most 4096; `a` the place of the run's first word.
+-- What a run of occupied words is, seen from its entries: ascending, each home inside the run, and the words what
+-- laying them gives. Lock bits are aside. `d` is the number of remainders, at most 4096; `a` the place of the run's
+-- first word.
 -- Assumes nothing.
 use Prim.Native.Nat.{ℕ, suc, _+_, _*_, _≤_, _<_}
 use mathlib.Core.Path.{_≡_}

@@ -1,5 +1,5 @@
--- A run of occupied words is sound exactly if it is what laying its entries gives, each home inside the run: `sound-is-run`,
--- `run-is-sound`, `run-entries`. (Theorems A and B for one cluster.)
+-- A run of occupied words is sound exactly if it is what laying its entries gives, each home inside the run:
+-- `sound-is-run`, `run-is-sound`, `run-entries`. (Theorems A and B for one cluster.)
 -- Assumes nothing.
 use Prim.Native.Nat.{ℕ, zero, suc, _+_, _*_, _≤_, _<_}
 use mathlib.Core.Path.{_≡_, refl, sym, ap, ap₂, _∙_, subst}
@@ -20,8 +20,10 @@ use Rattle.rules.specs.Lay.{hasHome, endsGroup, lay}
 use Rattle.rules.specs.Put.{layRun}
 use Rattle.theory.specs.Run.{Asc, none, next, unlock, Run}
 use Rattle.theory.specs.Dealt.{isChange, isVirgin, isOccupied, isLow, and-left, and-right, and-both, Least}
-use Rattle.theory.specs.Dealt.{Dealt, dealt-none, dealt-ends, dealt-goes, dealt, dealt-deal, dealt-count, dealt-size}
-use Rattle.theory.specs.Dealt.{dealt-ends-in-change, dealt-low, dealt-rising, dealt-homes, dealt-asc, dealt-lay, among}
+use Rattle.theory.specs.Dealt.{Dealt, dealt-none, dealt-ends, dealt-goes, dealt, dealt-deal, dealt-count}
+use Rattle.theory.specs.Dealt.{dealt-size}
+use Rattle.theory.specs.Dealt.{dealt-ends-in-change, dealt-low, dealt-rising, dealt-homes, dealt-asc, dealt-lay}
+use Rattle.theory.specs.Dealt.{among}
 use Rattle.theory.specs.Dealt.{Rising, rising-none, rising-next}
 use Rattle.theory.specs.Locks.{sound-run-unlock, virgin-unlock, deal-unlock, all-unlock}
 
@@ -43,7 +45,9 @@ unfolding virginPlaces
 virgin-rising c p [] room = rising-none
 virgin-rising c p (w ∷ ws) room = go (w .virgin) (virgin-rising c (suc p) ws (omega arith))
   where
-    go : (b : Bool) → Rising c (suc p) (virginPlaces (suc p) ws) → Rising c p (cond b (p ∷ virginPlaces (suc p) ws) (virginPlaces (suc p) ws))
+    go :
+        (b : Bool) → Rising c (suc p) (virginPlaces (suc p) ws) →
+        Rising c p (cond b (p ∷ virginPlaces (suc p) ws) (virginPlaces (suc p) ws))
     go true up = rising-next (le-refl p) (omega arith) up
     go false up = rising-from (omega arith) up
 
@@ -52,12 +56,15 @@ unfolding virginPlaces count
 virgin-count p [] = refl
 virgin-count p (w ∷ ws) = go (w .virgin) (virgin-count (suc p) ws)
   where
-    go : (b : Bool) → length (virginPlaces (suc p) ws) ≡ count isVirgin ws → length (cond b (p ∷ virginPlaces (suc p) ws) (virginPlaces (suc p) ws)) ≡ bitOf b + count isVirgin ws
+    go :
+        (b : Bool) → length (virginPlaces (suc p) ws) ≡ count isVirgin ws →
+        length (cond b (p ∷ virginPlaces (suc p) ws) (virginPlaces (suc p) ws)) ≡ bitOf b + count isVirgin ws
     go true e = omega arith
     go false e = omega arith
 
 -- a place of the run is among them where its word has virgin
-virgin-among : (p : ℕ) (ws : List Word) (i : ℕ) → i < length ws → among (p + i) (virginPlaces p ws) ≡ getD ws i zeroWord .virgin
+virgin-among :
+    (p : ℕ) (ws : List Word) (i : ℕ) → i < length ws → among (p + i) (virginPlaces p ws) ≡ getD ws i zeroWord .virgin
 unfolding virginPlaces among any
 virgin-among p [] i lt = absurd (omega arith)
 virgin-among p (w ∷ ws) zero lt = rw (add-zero p) (go (w .virgin))
@@ -65,7 +72,10 @@ virgin-among p (w ∷ ws) zero lt = rw (add-zero p) (go (w .virgin))
     go : (b : Bool) → among p (cond b (p ∷ virginPlaces (suc p) ws) (virginPlaces (suc p) ws)) ≡ b
     go true = ap (λ (b : Bool). b || among p (virginPlaces (suc p) ws)) (eq-eqb p p refl)
     go false = among-below p (omega arith) (virgin-rising (suc p + length ws) (suc p) ws (le-refl _))
-virgin-among p (w ∷ ws) (suc i) lt = go (w .virgin) (ap (λ (x : ℕ). among x (virginPlaces (suc p) ws)) (plus p i) ∙ virgin-among (suc p) ws i (omega arith))
+virgin-among p (w ∷ ws) (suc i) lt =
+    go
+    (w .virgin)
+    (ap (λ (x : ℕ). among x (virginPlaces (suc p) ws)) (plus p i) ∙ virgin-among (suc p) ws i (omega arith))
   where
     plus : (p i : ℕ) → p + suc i ≡ suc p + i
     plus p i = omega arith
@@ -74,7 +84,11 @@ virgin-among p (w ∷ ws) (suc i) lt = go (w .virgin) (ap (λ (x : ℕ). among x
         (b : Bool) →
         among (p + suc i) (virginPlaces (suc p) ws) ≡ getD ws i zeroWord .virgin →
         among (p + suc i) (cond b (p ∷ virginPlaces (suc p) ws) (virginPlaces (suc p) ws)) ≡ getD ws i zeroWord .virgin
-    go true e = ap (λ (b : Bool). b || among (p + suc i) (virginPlaces (suc p) ws)) (ne-eqb p (p + suc i) (λ (same : p ≡ p + suc i). omega arith)) ∙ e
+    go true e =
+        ap
+        (λ (b : Bool). b || among (p + suc i) (virginPlaces (suc p) ws))
+        (ne-eqb p (p + suc i) (λ (same : p ≡ p + suc i). omega arith))
+        ∙ e
     go false e = e
 
 -- ---- A: a sound run is what laying its entries gives
@@ -101,7 +115,11 @@ sound-is-run sh a run s occ snd =
         (and-left (all (isLow (remainders sh)) run) _ (and-right (counts && endsInChange run) _ snd))
         (and-right (all (isLow (remainders sh)) run) _ (and-right (counts && endsInChange run) _ snd))
         (virginPlaces a run)
-        (virgin-count a run ∙ eqb-true (count isVirgin run) (count isChange run) (and-left counts _ (and-left (counts && endsInChange run) _ snd)))
+        (virgin-count a run
+        ∙ eqb-true
+        (count isVirgin run)
+        (count isChange run)
+        (and-left counts _ (and-left (counts && endsInChange run) _ snd)))
 
     up : Rising (a + length run) a (virginPlaces a run)
     up = virgin-rising (a + length run) a run (le-refl _)
@@ -172,7 +190,9 @@ pick : (ℕ → Bool) → ℕ → ℕ → List ℕ
 pick f q zero = []
 pick f q (suc n) = cond (f q) (q ∷ pick f (suc q) n) (pick f (suc q) n)
 
-pick-at : (f : ℕ → Bool) (q n : ℕ) (b : Bool) → f q ≡ b → pick f q (suc n) ≡ cond b (q ∷ pick f (suc q) n) (pick f (suc q) n)
+pick-at :
+    (f : ℕ → Bool) (q n : ℕ) (b : Bool) → f q ≡ b →
+    pick f q (suc n) ≡ cond b (q ∷ pick f (suc q) n) (pick f (suc q) n)
 unfolding pick
 pick-at f q n b e = ap (λ (x : Bool). cond x (q ∷ pick f (suc q) n) (pick f (suc q) n)) e
 
@@ -222,7 +242,9 @@ unfolding virginPlaces lay pick
 lay-virgins whole q [] = refl
 lay-virgins whole q (e ∷ es) = ap (λ (hs : List ℕ). cond (hasHome whole q) (q ∷ hs) hs) (lay-virgins whole (suc q) es)
 
-lay-occupied : (whole : List Entry) (q : ℕ) (es : List Entry) → all isOccupied (lay whole q (replicate (length es) true) es) ≡ true
+lay-occupied :
+    (whole : List Entry) (q : ℕ) (es : List Entry) →
+    all isOccupied (lay whole q (replicate (length es) true) es) ≡ true
 unfolding lay all
 lay-occupied whole q [] = refl
 lay-occupied whole q (e ∷ es) = lay-occupied whole (suc q) es

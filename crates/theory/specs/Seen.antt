@@ -1,5 +1,6 @@
--- A sound table as runs between void words: `Table`. Seen from a gap it is what lies left of it and what lies right of it, `Left` and
--- `Right`; `whole` puts the two together again, and `locate` looks at a table from the gap or the run at a place.
+-- A sound table as runs between void words: `Table`. Seen from a gap it is what lies left of it and what lies right
+-- of it, `Left` and `Right`; `whole` puts the two together again, and `locate` looks at a table from the gap or the
+-- run at a place.
 -- Assumes nothing.
 use Prim.Native.Nat.{ℕ, suc, _+_, _*_, _≤_, _<_}
 use mathlib.Core.Path.{_≡_, refl, sym, ap, _∙_, subst, subst₂}
@@ -62,7 +63,10 @@ whole {d} g {v} {ys} (left-more u h run xs zs left hollow r p q) void right =
     ys
     r
     void
-    (subst (λ (n : ℕ). Right d (suc n) v ys) (ap length p ∙ length-append u (h ∷ run) ∙ plus (length u) (length run)) right)
+    (subst
+    (λ (n : ℕ). Right d (suc n) v ys)
+    (ap length p ∙ length-append u (h ∷ run) ∙ plus (length u) (length run))
+    right)
     refl
     refl))
   where
@@ -235,4 +239,5 @@ locate-from {d} {p} {u} {xs} g {v} {ys} q at left void (right-more run h w zs ts
         (further (omega (arith, length-append u (g ∷ run), ltb-false p (q + length run) l)))
 
 pub locate : {d : ℕ} {ws : List Word} {es : List Entry} (p : ℕ) → Table d ws es → p < length ws → Located d ws es p
-locate p (table {g} void right) lt = locate-from {p = p} g 1 refl (left-start refl refl) void right (omega arith) (omega arith)
+locate p (table {g} void right) lt =
+    locate-from {p = p} g 1 refl (left-start refl refl) void right (omega arith) (omega arith)

@@ -1,4 +1,5 @@
--- The paper's by-place soundness and list are those of runs between void words: `sound-is-table`, `table-is-sound`, `table-entries`.
+-- The paper's by-place soundness and list are those of runs between void words: `sound-is-table`, `table-is-sound`,
+-- `table-entries`.
 -- Assumes nothing.
 use Prim.Native.Nat.{ℕ, zero, suc, _+_, _-_, _≤_, _<_}
 use mathlib.Core.Path.{_≡_, refl, sym, ap, ap₂, _∙_, subst}
@@ -79,7 +80,9 @@ module _ (u : List Word) (g : Word) (run : List Word) (h : Word) (v : List Word)
         _
         _
         (ap (λ (o : Bool). cond o (soundRun sh (cluster ws (suc (length u) + i))) (isVoid b)) (and-left (b .occupied) _ occ)
-        ∙ ap (soundRun sh) (run-cluster u g run h v empty-left taken empty-right origin (suc (length u) + i) (omega arith) (omega arith))
+        ∙ ap
+        (soundRun sh)
+        (run-cluster u g run h v empty-left taken empty-right origin (suc (length u) + i) (omega arith) (omega arith))
         ∙ snd)
         (subst
         (λ (n : ℕ). soundFrom sh ws n back ≡ true)
@@ -89,11 +92,27 @@ module _ (u : List Word) (g : Word) (run : List Word) (h : Word) (v : List Word)
     abbrev es : List Entry
     es = deal (virginPlaces (suc (length u)) run) run
 
-    run-entry : (i : ℕ) → i < length run → entryAt ws (suc (length u) + i) ≡ getD es i (record { home = 0; remainder = 0 })
+    run-entry :
+        (i : ℕ) → i < length run → entryAt ws (suc (length u) + i) ≡ getD es i (record { home = 0; remainder = 0 })
     unfolding entryAt
     run-entry i lt = ap₂ (λ (fs : List Entry) (n : ℕ). getD fs n (record { home = 0; remainder = 0 }))
-        (run-cluster-entries u g run h v empty-left taken empty-right origin (suc (length u) + i) (omega arith) (omega arith))
-        (ap (λ (l : ℕ). suc (length u) + i - suc l) (run-left u g run h v empty-left taken empty-right origin (suc (length u) + i) (omega arith) (omega arith)) ∙ minus (length u) i)
+        (run-cluster-entries
+        u
+        g
+        run
+        h
+        v
+        empty-left
+        taken
+        empty-right
+        origin
+        (suc (length u) + i)
+        (omega arith)
+        (omega arith))
+        (ap
+        (λ (l : ℕ). suc (length u) + i - suc l)
+        (run-left u g run h v empty-left taken empty-right origin (suc (length u) + i) (omega arith) (omega arith))
+        ∙ minus (length u) i)
       where
         minus : (n i : ℕ) → suc n + i - suc n ≡ i
         minus n i = omega arith
@@ -161,7 +180,22 @@ module _ (u : List Word) (g : Word) (run : List Word) (h : Word) (v : List Word)
     unfolding soundFrom soundAt all
     run-sound sh [] e t = ap (soundRun sh) e ∙ nothing-sound sh
     run-sound sh (b ∷ back) e t =
-        ap (soundRun sh) (sym (run-cluster u g run h v empty-left taken empty-right origin (suc (length u)) (omega arith) (omega (arith, ap length e))))
+        ap
+        (soundRun sh)
+        (sym
+        (run-cluster
+        u
+        g
+        run
+        h
+        v
+        empty-left
+        taken
+        empty-right
+        origin
+        (suc (length u))
+        (omega arith)
+        (omega (arith, ap length e))))
         ∙ ap
         (λ (o : Bool). cond o (soundRun sh (cluster ws (suc (length u)))) (isVoid b))
         (sym (and-left (b .occupied) _ (sym (ap (all isOccupied) e) ∙ taken)))
@@ -227,7 +261,8 @@ further-place :
     q ≡ suc (length u) → suc (q + length run) ≡ suc (length (u ++ (g ∷ run)))
 further-place u g run q at-q = omega (arith, length-append u (g ∷ run))
 
--- a run of a table in which one knows where things stand: what holds at the words as seen from the run holds at the table
+-- a run of a table in which one knows where things stand: what holds at the words as seen from the run holds at the
+-- table
 module _ (sh : Shape) (ws u : List Word) (g : Word) (run : List Word) (h : Word) (v w : List Word) (q : ℕ)
     (free : g .occupied ≡ false)
     (occ : all isOccupied run ≡ true)
@@ -356,7 +391,15 @@ abbrev SoundShows : Shape → List Word → ℕ → List Word → List Entry →
 SoundShows sh ws q v es = (soundFrom sh ws q v ≡ true) × (entriesFrom ws q v ≡ es)
 
 from-step :
-    (sh : Shape) (ws u : List Word) (g : Word) (run : List Word) (h : Word) (v w : List Word) (q : ℕ) (xs ys : List Entry) →
+    (sh : Shape)
+    (ws u : List Word)
+    (g : Word)
+    (run : List Word)
+    (h : Word)
+    (v w : List Word)
+    (q : ℕ)
+    (xs ys : List Entry)
+    →
     remainders sh ≤ 4096 →
     g .occupied ≡ false →
     at ws 0 .occupied ≡ false →
@@ -441,19 +484,24 @@ from-right sh ws u g {v} q s free origin eq at-q (right-more run h w xs ys r hol
     (further-place u g run q at-q)
     rest))
 
-table-shows : (sh : Shape) {ws : List Word} {es : List Entry} → remainders sh ≤ 4096 → Table (remainders sh) ws es → SoundShows sh ws 0 ws es
+table-shows :
+    (sh : Shape) {ws : List Word} {es : List Entry} → remainders sh ≤ 4096 → Table (remainders sh) ws es →
+    SoundShows sh ws 0 ws es
 unfolding entriesFrom soundFrom soundAt
 table-shows sh s (table {g = g} {v = v} {es = es} void right) = (
   and-both _ _
       (ap (λ (o : Bool). cond o (soundRun sh (cluster (g ∷ v) 0)) (isVoid g)) (void-free g void) ∙ void)
       (after .0),
-  ap (λ (o : Bool). cond o (entryAt (g ∷ v) 0 ∷ entriesFrom (g ∷ v) 1 v) (entriesFrom (g ∷ v) 1 v)) (void-free g void) ∙ after .1,
+  ap (λ (o : Bool). cond o (entryAt (g ∷ v) 0 ∷ entriesFrom (g ∷ v) 1 v) (entriesFrom (g ∷ v) 1 v)) (void-free g void)
+      ∙ after .1,
 )
   where
     after : SoundShows sh (g ∷ v) 1 v es
     after = from-right sh (g ∷ v) [] g 1 s (void-free g void) (void-free g void) refl refl right
 
-pub table-entries : (sh : Shape) {ws : List Word} {es : List Entry} → remainders sh ≤ 4096 → Table (remainders sh) ws es → entries ws ≡ es
+pub table-entries :
+    (sh : Shape) {ws : List Word} {es : List Entry} → remainders sh ≤ 4096 → Table (remainders sh) ws es →
+    entries ws ≡ es
 unfolding entries
 table-entries sh s t = table-shows sh s t .1
 

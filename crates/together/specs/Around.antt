@@ -12,7 +12,8 @@ use Rattle.rules.specs.Lists.{all}
 use Rattle.rules.specs.Word.{Word, lockWord}
 use Rattle.rules.specs.Shape.{remainders, keys, places, rightGuard}
 use Rattle.rules.specs.Entry.{Entry, split}
-use Rattle.rules.specs.Table.{at, occupied, leftGap, rightGap, between, cluster, soundRun, virginPlaces, deal, entriesBetween}
+use Rattle.rules.specs.Table.{at, occupied, leftGap, rightGap, between, cluster, soundRun, virginPlaces, deal}
+use Rattle.rules.specs.Table.{entriesBetween}
 use Rattle.rules.specs.Table.{clusterEntries}
 use Rattle.rules.specs.Lay.{holds}
 use Rattle.rules.specs.Record.{homePlace}
@@ -59,7 +60,13 @@ around {sh} {ws} {ts} {laid} {shown} low inv i lt from-7 to-8 k x left-held righ
       home = home;
       left = left-is;
       right = right-is;
-      taken = between-occupied ws (t .left) (t .right) (omega (arith, words-size low inv, x .inside)) (λ q a b. occupied-at ws q ∙ between-taken x q a b);
+      taken =
+          between-occupied
+          ws
+          (t .left)
+          (t .right)
+          (omega (arith, words-size low inv, x .inside))
+          (λ q a b. occupied-at ws q ∙ between-taken x q a b);
       sound =
           sym (sound-run-unlock sh (between ws (t .left) (t .right)))
           ∙ ap (soundRun sh) run-same
@@ -71,7 +78,8 @@ around {sh} {ws} {ts} {laid} {shown} low inv i lt from-7 to-8 k x left-held righ
           ∙ deal-unlock (virginPlaces (suc (t .left)) (between ws (t .left) (t .right))) (between ws (t .left) (t .right)))
           ∙ ap (λ (vs : List Word). deal (virginPlaces (suc (t .left)) vs) vs) run-same;
       same =
-          ap₂ (λ (l r : ℕ). holds (split sh (t .key)) (entriesBetween laid l r)) (sym left-is) (sym right-is) ∙ look .same;
+          ap₂ (λ (l r : ℕ). holds (split sh (t .key)) (entriesBetween laid l r)) (sym left-is) (sym right-is)
+          ∙ look .same;
     }
   where
     t : Task

@@ -1,4 +1,5 @@
--- The two steps that put a key: the fill of an empty home (phase 1) and the fill at the hand (phase 8). Each is put into the table laid.
+-- The two steps that put a key: the fill of an empty home (phase 1) and the fill at the hand (phase 8). Each is put
+-- into the table laid.
 -- Assumes nothing.
 use Prim.Native.Nat.{ℕ, zero, suc, _+_, _-_, _≤_, _<_}
 use mathlib.Core.Path.{_≡_, refl, sym, ap, ap₂, _∙_, subst}
@@ -16,7 +17,8 @@ use Rattle.rules.specs.Lists.{any}
 use Rattle.rules.specs.Word.{Word, zeroWord, lockWord, withRemainder, isVoid, isLock, isZero}
 use Rattle.rules.specs.Shape.{homes, remainders, keys, places, rightGuard}
 use Rattle.rules.specs.Entry.{Entry, split, sameEntry}
-use Rattle.rules.specs.Table.{at, occupied, leftGap, rightGap, between, virginPlaces, deal, entriesBetween, clusterEntries}
+use Rattle.rules.specs.Table.{at, occupied, leftGap, rightGap, between, virginPlaces, deal, entriesBetween}
+use Rattle.rules.specs.Table.{clusterEntries}
 use Rattle.rules.specs.Room.{place, full, roomFor}
 use Rattle.rules.specs.Lay.{holds, insert}
 use Rattle.rules.specs.Put.{addAt, enlargedFrom, Outcome, keeps, putIn, wordsAfter}
@@ -39,8 +41,10 @@ use Rattle.theory.specs.Finding.{Surroundings, surroundings, around-free}
 use Rattle.theory.specs.Putting.{Puts, found, inserted, overflow, put-table, table-guarded}
 use Rattle.theory.specs.Moving.{Addable, add-end, begins-from, room-alone, add-alone}
 use Rattle.theory.specs.Building.{State, after-put, added-state, place≢full}
-use Rattle.together.specs.Frames.{Within, at-set, at-other, at-unlocked, finish-before, finish-after, locks-at, occupied-same}
-use Rattle.together.specs.Invariant.{Occupied, Looked, Fills, Ready, Moving, Owns, by-left, by-right, Reserves, Apart, Unfinished}
+use Rattle.together.specs.Frames.{Within, at-set, at-other, at-unlocked, finish-before, finish-after, locks-at}
+use Rattle.together.specs.Frames.{occupied-same}
+use Rattle.together.specs.Invariant.{Occupied, Looked, Fills, Ready, Moving, Owns, by-left, by-right, Reserves}
+use Rattle.together.specs.Invariant.{Apart, Unfinished}
 use Rattle.together.specs.Invariant.{Inv, Stage, at-rest, moving, marking}
 use Rattle.together.specs.Stable.{Frame, LetsAlone, stage-stable, finish-same, from-ge, upTo-le, fills-as}
 use Rattle.together.specs.Update.{Steps, same-or-not}
@@ -86,8 +90,11 @@ puts-at {sh} {laid} {shown} e p low home small s new room =
         })
 
 -- a plain table has no lock
-pub plain-unlocked : {sh : Shape} {laid : List Word} {shown : List Entry} (q : ℕ) → State sh laid shown → unlock (at laid q) ≡ at laid q
-plain-unlocked {laid = laid} q s = sym (at-unlocked laid q) ∙ ap (λ (vs : List Word). at vs q) (unlocked-same laid (s .free))
+pub plain-unlocked :
+    {sh : Shape} {laid : List Word} {shown : List Entry} (q : ℕ) → State sh laid shown →
+    unlock (at laid q) ≡ at laid q
+plain-unlocked {laid = laid} q s =
+    sym (at-unlocked laid q) ∙ ap (λ (vs : List Word). at vs q) (unlocked-same laid (s .free))
 
 -- another key's entry is as much held as before
 pub held-other : (e f : Entry) (es : List Entry) → (e .home ≢ f .home) → holds f (insert e es) ≡ holds f es
@@ -163,7 +170,10 @@ module _ {sh : Shape} {ws : List Word} {ts : List Task} {laid : List Word} {show
         go gaps.right at-guard room =
             room-left sh (occupied laid) (e .home)
             ∙ chosen-only
-            (gaps.second (occupied-at laid (e .home) ∙ home-taken) (see .left ∙ at-guard) (λ z. not-guard (sym (see .right) ∙ z)))
+            (gaps.second
+            (occupied-at laid (e .home) ∙ home-taken)
+            (see .left ∙ at-guard)
+            (λ z. not-guard (sym (see .right) ∙ z)))
             ∙ ap place (see .right)
           where
             not-guard : t .right ≡ rightGuard sh → ⊥
@@ -198,14 +208,19 @@ module _ {sh : Shape} {ws : List Word} {ts : List Task} {laid : List Word} {show
         ∙ add-end addable home-taken (y .side)
         ∙ (λ j. finish (fillAt (e .remainder) laid (hand-is j)) (hand-is j) (goal-is j) (mark-is j) (e .home))
       where
-        gap-is : end (y .side) (leftGap (occupied laid) (e .home)) (rightGap (occupied laid) (e .home)) ≡ end (y .side) (t .left) (t .right)
+        gap-is :
+            end (y .side) (leftGap (occupied laid) (e .home)) (rightGap (occupied laid) (e .home))
+            ≡ end (y .side) (t .left) (t .right)
         gap-is = ap₂ (end (y .side)) (see .left) (see .right)
 
         hand-is : end (y .side) (leftGap (occupied laid) (e .home)) (rightGap (occupied laid) (e .home)) ≡ t .hand
         hand-is = gap-is ∙ sym (y .hand)
 
         goal-is :
-            enlargedFrom laid (e .home) (end (y .side) (leftGap (occupied laid) (e .home)) (rightGap (occupied laid) (e .home)))
+            enlargedFrom
+            laid
+            (e .home)
+            (end (y .side) (leftGap (occupied laid) (e .home)) (rightGap (occupied laid) (e .home)))
             + smaller e (entriesBetween laid (leftGap (occupied laid) (e .home)) (rightGap (occupied laid) (e .home)))
             ≡ t .goal
         goal-is =
@@ -213,7 +228,9 @@ module _ {sh : Shape} {ws : List Word} {ts : List Task} {laid : List Word} {show
             ∙ ap₂ (λ (l r : ℕ). from (y .side) l + smaller e (entriesBetween laid l r)) (see .left) (see .right)
             ∙ sym (y .goal)
 
-        mark-is : markOf e (entriesBetween laid (leftGap (occupied laid) (e .home)) (rightGap (occupied laid) (e .home))) ≡ t .mark
+        mark-is :
+            markOf e (entriesBetween laid (leftGap (occupied laid) (e .home)) (rightGap (occupied laid) (e .home)))
+            ≡ t .mark
         mark-is = ap₂ (λ (l r : ℕ). markOf e (entriesBetween laid l r)) (see .left) (see .right) ∙ sym (y .mark)
 
     abbrev filled : List Word
@@ -299,7 +316,8 @@ module _ {sh : Shape} {ws : List Word} {ts : List Task} {laid : List Word} {show
             (λ (n : ℕ). n < 4096)
             (sym (ap (λ (r : ℕ). at filled r .remainder) same ∙ ap (λ (w : Word). w .remainder) filled-here))
             (omega (arith, small-key))
-        go (inr n) = subst (λ (m : ℕ). m < 4096) (sym (ap (λ (w : Word). w .remainder) (filled-other q n))) (inv .small q)
+        go (inr n) =
+            subst (λ (m : ℕ). m < 4096) (sym (ap (λ (w : Word). w .remainder) (filled-other q n))) (inv .small q)
 
     -- the same fill on the table laid
     abbrev laid-filled : List Word
@@ -317,7 +335,14 @@ module _ {sh : Shape} {ws : List Word} {ts : List Task} {laid : List Word} {show
             ap (λ (r : ℕ). unlock (at filled r)) same
             ∙ ap unlock filled-here
             ∙ ap (withRemainder (e .remainder)) (alike (t .hand) hand-in)
-            ∙ ap unlock (sym (at-set laid (t .hand) (withRemainder (e .remainder) (at laid (t .hand))) (omega (arith, laid-long, hand-inside))))
+            ∙ ap
+            unlock
+            (sym
+            (at-set
+            laid
+            (t .hand)
+            (withRemainder (e .remainder) (at laid (t .hand)))
+            (omega (arith, laid-long, hand-inside))))
             ∙ ap (λ (r : ℕ). unlock (at laid-filled r)) (sym same)
         go (inr n) =
             ap unlock (filled-other q n)
@@ -389,9 +414,39 @@ module _ {sh : Shape} {ws : List Word} {ts : List Task} {laid : List Word} {show
             at (finish laid-filled (t .hand) (t .goal) (t .mark) (e .home)) q ≡ at laid-filled q
         go (inl a) (inl b) = absurd (far (a, b))
         go (inr a) b =
-            finish-before laid-filled (t .left) (t .right) ordered long (t .hand) (t .goal) (t .mark) (e .home) hand-in goal-in home-in closes q a
+            finish-before
+            laid-filled
+            (t .left)
+            (t .right)
+            ordered
+            long
+            (t .hand)
+            (t .goal)
+            (t .mark)
+            (e .home)
+            hand-in
+            goal-in
+            home-in
+            closes
+            q
+            a
         go (inl a) (inr b) =
-            finish-after laid-filled (t .left) (t .right) ordered long (t .hand) (t .goal) (t .mark) (e .home) hand-in goal-in home-in closes q b
+            finish-after
+            laid-filled
+            (t .left)
+            (t .right)
+            ordered
+            long
+            (t .hand)
+            (t .goal)
+            (t .mark)
+            (e .home)
+            hand-in
+            goal-in
+            home-in
+            closes
+            q
+            b
 
     filling : (n : ℕ) → Moving sh filled laid′ (insert e shown) (toPhase n t)
     unfolding homePlace
@@ -404,7 +459,10 @@ module _ {sh : Shape} {ws : List Word} {ts : List Task} {laid : List Word} {show
               record {
                 taken =
                     ap (λ (r : ℕ). at filled r .occupied) (sym (y .hand)) ∙ ap (λ (w : Word). w .occupied) filled-here;
-                kept = filled-locks (end (y .side) (t .left) (t .right)) ∙ ap (λ (r : ℕ). at ws r .lock) (sym (y .hand)) ∙ ap (λ (w : Word). w .lock) hand-held;
+                kept =
+                    filled-locks (end (y .side) (t .left) (t .right))
+                    ∙ ap (λ (r : ℕ). at ws r .lock) (sym (y .hand))
+                    ∙ ap (λ (w : Word). w .lock) hand-held;
               };
           waiting =
               filled-other
@@ -529,11 +587,21 @@ module _ {sh : Shape} {ws : List Word} {ts : List Task} {laid : List Word} {show
         go true same =
             fill-to 10 (omega arith) (omega arith)
             (ap (λ (b : Bool). toPhase (cond b 10 9) t) same)
-            (marking refl k (looked-as t (toPhase 10 t) refl refl refl looked-filled) (eqb-true (t .hand) (t .goal) same) (filling 10))
+            (marking
+            refl
+            k
+            (looked-as t (toPhase 10 t) refl refl refl looked-filled)
+            (eqb-true (t .hand) (t .goal) same)
+            (filling 10))
         go false apart =
             fill-to 9 (omega arith) (omega arith)
             (ap (λ (b : Bool). toPhase (cond b 10 9) t) apart)
-            (moving refl k (looked-as t (toPhase 9 t) refl refl refl looked-filled) (eqb-false (t .hand) (t .goal) apart) (filling 9))
+            (moving
+            refl
+            k
+            (looked-as t (toPhase 9 t) refl refl refl looked-filled)
+            (eqb-false (t .hand) (t .goal) apart)
+            (filling 9))
 
 home-below : (sh : Shape) (h : ℕ) → h ≤ homes sh → h ≤ rightGuard sh
 unfolding rightGuard
@@ -551,7 +619,8 @@ no-keys-there :
     State sh laid shown → at laid (e .home) .occupied ≡ false → holds e (clusterEntries laid (e .home)) ≡ false
 unfolding holds any clusterEntries entriesBetween virginPlaces deal
 no-keys-there sh laid e s free =
-    ap₂ (λ (l r : ℕ). holds e (entriesBetween laid l r)) own-left own-right ∙ ap (λ (vs : List Word). holds e (deal (virginPlaces (suc (e .home)) vs) vs)) nothing
+    ap₂ (λ (l r : ℕ). holds e (entriesBetween laid l r)) own-left own-right
+    ∙ ap (λ (vs : List Word). holds e (deal (virginPlaces (suc (e .home)) vs) vs)) nothing
   where
     free-place : gaps.Free (occupied laid) (e .home)
     free-place = occupied-at laid (e .home) ∙ free
@@ -684,7 +753,9 @@ module _ {sh : Shape} {ws : List Word} {ts : List Task} {laid : List Word} {show
               (ap (λ (w : Word). w .occupied) empty));
         }
 
-    fresh₁ : (u : Task) → Stage sh ws laid shown u → u .phase ≡ 8 → holds (split sh (u .key)) (insert e₁ shown) ≡ holds (split sh (u .key)) shown
+    fresh₁ :
+        (u : Task) → Stage sh ws laid shown u → u .phase ≡ 8 →
+        holds (split sh (u .key)) (insert e₁ shown) ≡ holds (split sh (u .key)) shown
     unfolding homePlace
     fresh₁ u s at-8 =
         held-other e₁ (split sh (u .key)) shown
@@ -756,7 +827,8 @@ module _ {sh : Shape} {ws : List Word} {ts : List Task} {laid : List Word} {show
             (λ (n : ℕ). n < 4096)
             (sym (ap (λ (r : ℕ). at grown r .remainder) same ∙ ap (λ (w : Word). w .remainder) grown-here))
             (omega (arith, small₁))
-        small q (inr n) = subst (λ (m : ℕ). m < 4096) (sym (ap (λ (w : Word). w .remainder) (grown-other q n))) (inv .small q)
+        small q (inr n) =
+            subst (λ (m : ℕ). m < 4096) (sym (ap (λ (w : Word). w .remainder) (grown-other q n))) (inv .small q)
 
         settle :
             (q : ℕ) →

@@ -15,11 +15,13 @@ use Rattle.rules.specs.Entry.{Entry}
 use Rattle.rules.specs.Table.{at}
 use Rattle.rules.specs.Record.{homePlace}
 use Rattle.rules.specs.Give.{taskAt}
-use Rattle.together.specs.Invariant.{Looked, LookedLeft, Inv, Stage, at-rest, at-home, looks-left, looks-right, owns-left}
+use Rattle.together.specs.Invariant.{Looked, LookedLeft, Inv, Stage, at-rest, at-home, looks-left, looks-right}
+use Rattle.together.specs.Invariant.{owns-left}
 use Rattle.together.specs.Invariant.{owns-both, has-read, moving, marking, frees-left, frees-right}
 use Rattle.together.specs.Stable.{word-of}
 use Rattle.together.specs.Facts.{in-order, free-void}
-use Rattle.together.specs.Walk.{Walked, walk-stay, walk-home, walk-left-on, walk-left-stop, walk-right-on, walk-right-stop}
+use Rattle.together.specs.Walk.{Walked, walk-stay, walk-home, walk-left-on, walk-left-stop, walk-right-on}
+use Rattle.together.specs.Walk.{walk-right-stop}
 use Rattle.together.specs.Walk.{walk-again, walk-lock-left, walk-right-taken, walk-lock-right, walk-back}
 use Rattle.together.specs.Reading.{walk-read}
 use Rattle.together.specs.Finishing.{walk-move, walk-mark, walk-free-left, walk-free-right}
@@ -43,28 +45,36 @@ module _ {sh : Shape} {ws : List Word} {ts : List Task} {laid : List Word} {show
             walk-alone low inv i lt p k
             (word-of (free-void low inv (homePlace sh (taskAt ts i)) taken) locked)
 
-    walk-2 : taskAt ts i .phase ≡ 2 → taskAt ts i .key < keys sh → LookedLeft sh ws (taskAt ts i) → Walked sh ws ts laid shown i
+    walk-2 :
+        taskAt ts i .phase ≡ 2 → taskAt ts i .key < keys sh → LookedLeft sh ws (taskAt ts i) →
+        Walked sh ws ts laid shown i
     walk-2 p k x = go (at ws (taskAt ts i .left) .occupied) refl
       where
         go : (b : Bool) → at ws (taskAt ts i .left) .occupied ≡ b → Walked sh ws ts laid shown i
         go true e = walk-left-on low inv i lt p k x e
         go false e = walk-left-stop low inv i lt p k x e
 
-    walk-3 : taskAt ts i .phase ≡ 3 → taskAt ts i .key < keys sh → Looked sh ws (taskAt ts i) → Walked sh ws ts laid shown i
+    walk-3 :
+        taskAt ts i .phase ≡ 3 → taskAt ts i .key < keys sh → Looked sh ws (taskAt ts i) →
+        Walked sh ws ts laid shown i
     walk-3 p k x = go (at ws (taskAt ts i .right) .occupied) refl
       where
         go : (b : Bool) → at ws (taskAt ts i .right) .occupied ≡ b → Walked sh ws ts laid shown i
         go true e = walk-right-on low inv i lt p k x e
         go false e = walk-right-stop low inv i lt p k x e
 
-    walk-4 : taskAt ts i .phase ≡ 4 → taskAt ts i .key < keys sh → Looked sh ws (taskAt ts i) → Walked sh ws ts laid shown i
+    walk-4 :
+        taskAt ts i .phase ≡ 4 → taskAt ts i .key < keys sh → Looked sh ws (taskAt ts i) →
+        Walked sh ws ts laid shown i
     walk-4 p k x = go (isZero (at ws (taskAt ts i .left))) refl
       where
         go : (b : Bool) → isZero (at ws (taskAt ts i .left)) ≡ b → Walked sh ws ts laid shown i
         go true e = walk-lock-left low inv i lt p k x e
         go false e = walk-again low inv i lt p k e
 
-    walk-5 : taskAt ts i .phase ≡ 5 → taskAt ts i .key < keys sh → Looked sh ws (taskAt ts i) → at ws (taskAt ts i .left) ≡ lockWord → Walked sh ws ts laid shown i
+    walk-5 :
+        taskAt ts i .phase ≡ 5 → taskAt ts i .key < keys sh → Looked sh ws (taskAt ts i) →
+        at ws (taskAt ts i .left) ≡ lockWord → Walked sh ws ts laid shown i
     walk-5 p k x held = go (isZero (at ws (taskAt ts i .right))) refl
       where
         go : (b : Bool) → isZero (at ws (taskAt ts i .right)) ≡ b → Walked sh ws ts laid shown i

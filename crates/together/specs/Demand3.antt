@@ -1,5 +1,6 @@
--- Demand 3 about the definitions that the contracts of give and step cite, sentence by sentence, for every shape in range. The terms are
--- in Machine (a course of gives and steps, and its history); the invariant is in Invariant; every proof is elsewhere (Fair, Rest).
+-- Demand 3 about the definitions that the contracts of give and step cite, sentence by sentence, for every shape in
+-- range. The terms are in Machine (a course of gives and steps, and its history); the invariant is in Invariant;
+-- every proof is elsewhere (Fair, Rest).
 -- Assumes nothing.
 use Prim.Native.Nat.{ℕ, _+_, _≤_, _<_}
 use mathlib.Core.Path.{_≡_, refl, sym, ap, _∙_}
@@ -18,8 +19,10 @@ use Rattle.theory.specs.Perm as perm
 use Rattle.theory.specs.Perm.{All}
 use Rattle.theory.specs.Keys.{listed}
 use Rattle.demands.specs.Terms.{PlainTable, InKeys, listOf, distinct, putAll}
-use Rattle.together.specs.Machine.{Action, Said, World, begin, course, quiet, timesGiven, timesSaid, timesInserted}
-use Rattle.together.specs.Fair.{Means, means-full, means-shown, Fair, StepAnswer, answer-of, fair-begin, fair-course, step-answers}
+use Rattle.together.specs.Machine.{Action, Said, World, begin, course, quiet, timesGiven, timesSaid}
+use Rattle.together.specs.Machine.{timesInserted}
+use Rattle.together.specs.Fair.{Means, means-full, means-shown, Fair, StepAnswer, answer-of, fair-begin}
+use Rattle.together.specs.Fair.{fair-course, step-answers}
 use Rattle.together.specs.Rest as proof
 
 -- whether a key was answered inserted
@@ -68,7 +71,12 @@ module _ {m r : ℕ} {bytes : List ℕ} (t : PlainTable m r bytes) (ts : List Ta
       pub lists-after :
           (x : ℕ) → listed x (listOf m r (after .table)) ≡ (listed x (listOf m r bytes) || wasInserted x (after .said))
       unfolding wasInserted
-      lists-after x = go (listed x (listOf m r (after .table))) (listed x (listOf m r bytes)) (timesInserted x (after .said)) (tally x)
+      lists-after x =
+          go
+          (listed x (listOf m r (after .table)))
+          (listed x (listOf m r bytes))
+          (timesInserted x (after .said))
+          (tally x)
         where
           go : (a b : Bool) (n : ℕ) → bitOf b + n ≡ bitOf a → a ≡ (b || leb 1 n)
           go true true n e = refl
@@ -80,7 +88,9 @@ module _ {m r : ℕ} {bytes : List ℕ} (t : PlainTable m r bytes) (ts : List Ta
       pub inserted-once : (x : ℕ) → timesInserted x (after .said) ≤ 1
       inserted-once x = go (listed x (listOf m r (after .table))) (tally x)
         where
-          go : (a : Bool) → bitOf (listed x (listOf m r bytes)) + timesInserted x (after .said) ≡ bitOf a → timesInserted x (after .said) ≤ 1
+          go :
+              (a : Bool) → bitOf (listed x (listOf m r bytes)) + timesInserted x (after .said) ≡ bitOf a →
+              timesInserted x (after .said) ≤ 1
           go true e = omega arith
           go false e = omega arith
 
@@ -88,7 +98,9 @@ module _ {m r : ℕ} {bytes : List ℕ} (t : PlainTable m r bytes) (ts : List Ta
       pub inserted-new : (x : ℕ) → listed x (listOf m r bytes) ≡ true → timesInserted x (after .said) ≡ 0
       inserted-new x there = go (listed x (listOf m r (after .table))) (tally x)
         where
-          go : (a : Bool) → bitOf (listed x (listOf m r bytes)) + timesInserted x (after .said) ≡ bitOf a → timesInserted x (after .said) ≡ 0
+          go :
+              (a : Bool) → bitOf (listed x (listOf m r bytes)) + timesInserted x (after .said) ≡ bitOf a →
+              timesInserted x (after .said) ≡ 0
           go true e = omega (arith, ap bitOf there)
           go false e = omega arith
 

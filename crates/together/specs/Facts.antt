@@ -1,5 +1,5 @@
--- What the invariant tells of the words: an unoccupied word is 0 or exactly the lock bit, the guards are void, the stretch that a task
--- reserves has the words laid. (That each record fits: Fitting.)
+-- What the invariant tells of the words: an unoccupied word is 0 or exactly the lock bit, the guards are void, the
+-- stretch that a task reserves has the words laid. (That each record fits: Fitting.)
 -- Assumes nothing.
 use Prim.Native.Nat.{ℕ, zero, suc, _≤_, _<_}
 use mathlib.Core.Path.{_≡_, refl, sym, ap, _∙_, subst}
@@ -30,7 +30,8 @@ use Rattle.theory.specs.Putting.{table-guarded}
 use Rattle.theory.specs.Building.{State}
 use Rattle.together.specs.Frames.{Within, occupied-same}
 use Rattle.together.specs.Invariant.{Occupied, Looked, Moving}
-use Rattle.together.specs.Invariant.{Stage, at-rest, at-home, looks-left, looks-right, owns-left, owns-both, has-read}
+use Rattle.together.specs.Invariant.{Stage, at-rest, at-home, looks-left, looks-right, owns-left, owns-both}
+use Rattle.together.specs.Invariant.{has-read}
 use Rattle.together.specs.Invariant.{moving, marking, frees-left, frees-right, Unfinished, Inv}
 use Rattle.together.specs.Update.{same-or-not}
 
@@ -153,7 +154,8 @@ module _ {sh : Shape} {ws : List Word} {ts : List Task} {laid : List Word} {show
         go :
             (m : Moves sh ws laid shown t) (side : Side) →
             m .moving .side ≡ side → (p ≡ t .left) ⊎ (p ≢ t .left) → (p ≡ t .right) ⊎ (p ≢ t .right) → at ws p ≡ lockWord
-        go m side e (inr a) (inr b) = never (between-taken (m .looked) p (omega (arith, u .inside)) (omega (arith, u .inside)))
+        go m side e (inr a) (inr b) =
+            never (between-taken (m .looked) p (omega (arith, u .inside)) (omega (arith, u .inside)))
         go m gaps.left e (inl a) b =
             never
             (ap (λ (q : ℕ). at ws q .occupied) (a ∙ ap (λ (s : Side). end s (t .left) (t .right)) (sym e))

@@ -1,4 +1,5 @@
--- What holds of every world that a course reaches: `Fair`. It begins so (`fair-begin`), and each action keeps it (`fair-act`).
+-- What holds of every world that a course reaches: `Fair`. It begins so (`fair-begin`), and each action keeps it
+-- (`fair-act`).
 -- Assumes nothing.
 use Prim.Native.Nat.{ℕ, zero, suc, _+_, _*_, _≤_, _<_}
 use mathlib.Core.Path.{_≡_, refl, sym, ap, ap₂, _∙_, subst}
@@ -41,8 +42,10 @@ use Rattle.demands.specs.Terms.{SoundTable, PlainTable, InKeys, entriesOf}
 use Rattle.demands.specs.Lent.{in-range-of, low-of, size-of, state-of, bytes-small}
 use Rattle.demands.specs.Proof2.{same-split}
 use Rattle.demands.specs.Proof3.{listed-split}
-use Rattle.together.specs.Invariant.{Owns, by-left, by-right, Reserves, Apart, Unfinished, Inv, Stage, at-rest, at-home}
-use Rattle.together.specs.Invariant.{looks-left, looks-right, owns-left, owns-both, has-read, moving, marking, frees-left, frees-right}
+use Rattle.together.specs.Invariant.{Owns, by-left, by-right, Reserves, Apart, Unfinished, Inv, Stage, at-rest}
+use Rattle.together.specs.Invariant.{at-home}
+use Rattle.together.specs.Invariant.{looks-left, looks-right, owns-left, owns-both, has-read, moving, marking}
+use Rattle.together.specs.Invariant.{frees-left, frees-right}
 use Rattle.together.specs.Update.{Steps, inv-update, task-same, task-other, same-or-not}
 use Rattle.together.specs.Facts.{in-order, words-size}
 use Rattle.together.specs.Fitting.{stage-fits}
@@ -50,9 +53,11 @@ use Rattle.together.specs.Quiet.{still}
 use Rattle.together.specs.Walk.{Walked, Effect, keeps, commits, weight, Answered, says-full, says-shown}
 use Rattle.together.specs.Course.{walk}
 use Rattle.together.specs.Commit.{held-still, plain-unlocked}
-use Rattle.together.specs.Machine.{Action, gives, steps, Said, World, begin, afterGive, afterStep, act, course, quiet}
+use Rattle.together.specs.Machine.{Action, gives, steps, Said, World, begin, afterGive, afterStep, act, course}
+use Rattle.together.specs.Machine.{quiet}
 use Rattle.together.specs.Machine.{timesGiven, timesSaid, timesInserted}
-use Rattle.together.specs.History.{timesLoaded, timesBusy, heard, tally-step, answers-step, give-tally, quiet-counts, rest-phase}
+use Rattle.together.specs.History.{timesLoaded, timesBusy, heard, tally-step, answers-step, give-tally}
+use Rattle.together.specs.History.{quiet-counts, rest-phase}
 
 -- an answer: full, or found or inserted with its key shown
 pub data Means (sh : Shape) (shown : List Entry) (s : Said) : Type 0 where
@@ -77,7 +82,8 @@ pub record Fair (m r : ℕ) (start : List ℕ) (w : World) : Type 0 where
   pub laid : List Word
   pub shown : List Entry
   pub inv : Inv (shapeOf m r) (wordsOf (w .table)) (w .tasks) laid shown
-  -- the keys put so far, in order: the table laid is the starting one with these put, and shows no others beside the starting ones
+  -- the keys put so far, in order: the table laid is the starting one with these put, and shows no others beside the
+  -- starting ones
   pub put : List Entry
   pub chain : laid ≡ puts (shapeOf m r) (wordsOf start) put
   pub shown-is : (x : Entry) → holds x shown ≡ (holds x (entries (wordsOf start)) || holds x put)
@@ -114,7 +120,9 @@ unlocked-at (w ∷ ws) (suc p) free = unlocked-at ws p (go (w .lock) free)
     go true h = absurd (true≢false h)
     go false h = h
 
-pub rest-at : (ts : List Task) (i : ℕ) → i < length ts → all atRest ts ≡ true → (taskAt ts i .phase ≡ 0) ⊎ (taskAt ts i .phase ≡ 13)
+pub rest-at :
+    (ts : List Task) (i : ℕ) → i < length ts → all atRest ts ≡ true →
+    (taskAt ts i .phase ≡ 0) ⊎ (taskAt ts i .phase ≡ 13)
 unfolding all
 rest-at [] i lt h = absurd (omega arith)
 rest-at (t ∷ ts) zero lt h = rest-phase t (and-left (atRest t) _ h)
@@ -177,7 +185,9 @@ fair-begin {m} {r} {bytes} ts t few rest =
           };
     }
   where
-    never : (i : ℕ) → (taskAt ts i .phase ≡ 0) ⊎ (taskAt ts i .phase ≡ 13) → 1 ≤ taskAt ts i .phase → taskAt ts i .phase ≤ 12 → ⊥
+    never :
+        (i : ℕ) → (taskAt ts i .phase ≡ 0) ⊎ (taskAt ts i .phase ≡ 13) → 1 ≤ taskAt ts i .phase →
+        taskAt ts i .phase ≤ 12 → ⊥
     never i (inl e) a b = omega arith
     never i (inr e) a b = omega arith
 
@@ -291,7 +301,11 @@ fair-given {m} {r} {start} {w} i key f lt small idle =
         taskAt (set (w .tasks) i (given key)) j .phase ≤ 12 →
         (j ≡ i) ⊎ (j ≢ i) → taskAt (set (w .tasks) i (given key)) j .answer ≢ 3
     unfilled before j l a b (inl e) full =
-        let no-answer : _≡_ {A = ℕ} 0 3 = sym (ap (λ (k : ℕ). taskAt (set (w .tasks) i (given key)) k .answer) e ∙ ap (λ (t : Task). t .answer) (task-same (w .tasks) i (given key) lt)) ∙ full in
+        let no-answer : _≡_ {A = ℕ} 0 3 =
+        sym
+        (ap (λ (k : ℕ). taskAt (set (w .tasks) i (given key)) k .answer) e
+        ∙ ap (λ (t : Task). t .answer) (task-same (w .tasks) i (given key) lt))
+        ∙ full in
         omega (arith, no-answer)
     unfilled before j l a b (inr n) full =
         let same = task-other (w .tasks) i j (given key) n in
@@ -376,7 +390,9 @@ fair-give {m} {r} {start} {w} i key f =
         (fair-given i key f (ltb-true i (length (w .tasks)) y) (ltb-true key (keys (shapeOf m r)) x) z)
 
 -- ---- a step
-puts-snoc : (sh : Shape) (ws : List Word) (es : List Entry) (e : Entry) → puts sh ws (es ++ (e ∷ [])) ≡ after-put sh (puts sh ws es) e
+puts-snoc :
+    (sh : Shape) (ws : List Word) (es : List Entry) (e : Entry) →
+    puts sh ws (es ++ (e ∷ [])) ≡ after-put sh (puts sh ws es) e
 unfolding puts
 puts-snoc sh ws [] e = refl
 puts-snoc sh ws (f ∷ es) e = puts-snoc sh (after-put sh ws f) es e
@@ -444,7 +460,9 @@ module _ {m r : ℕ} {start : List ℕ} {w : World} (f : Fair m r start w) (i : 
     commit-after new light heavy =
         record {
           put = f .put ++ (e ∷ []);
-          chain = ap (λ (vs : List Word). after-put (shapeOf m r) vs e) (f .chain) ∙ sym (puts-snoc (shapeOf m r) (wordsOf start) (f .put) e);
+          chain =
+              ap (λ (vs : List Word). after-put (shapeOf m r) vs e) (f .chain)
+              ∙ sym (puts-snoc (shapeOf m r) (wordsOf start) (f .put) e);
           shown-is = λ x.
               holds-insert x e (f .shown)
               ∙ ap (λ (b : Bool). sameEntry x e || b) (f .shown-is x)
@@ -476,25 +494,34 @@ module _ {m r : ℕ} {start : List ℕ} {w : World} (f : Fair m r start w) (i : 
             first-false true b h = h
             first-false false b h = refl
 
-        fresh : (x : Entry) (b : Bool) → sameEntry x e ≡ b → (b || holds x (f .put)) ≡ true → holds x (entries (wordsOf start)) ≡ false
+        fresh :
+            (x : Entry) (b : Bool) → sameEntry x e ≡ b → (b || holds x (f .put)) ≡ true →
+            holds x (entries (wordsOf start)) ≡ false
         fresh x true k h = ap (λ (y : Entry). holds y (entries (wordsOf start))) (same-eq x e k) ∙ start-new
         fresh x false k h = f .put-new x h
 
-        known : (x : Entry) (b : Bool) → sameEntry x e ≡ b → (b || holds x (f .put)) ≡ true → holds x (entriesOf (shapeOf m r) (w .given)) ≡ true
+        known :
+            (x : Entry) (b : Bool) → sameEntry x e ≡ b → (b || holds x (f .put)) ≡ true →
+            holds x (entriesOf (shapeOf m r) (w .given)) ≡ true
         known x true k h =
             ap (λ (y : Entry). holds y (entriesOf (shapeOf m r) (w .given))) (same-eq x e k)
             ∙ sym (listed-split (shapeOf m r) (t .key) (w .given))
             ∙ f .task-given i lt first last
         known x false k h = f .put-given x h
 
-        weighed : (key : ℕ) → cond (eqb (t .key) key) (weight t) 0 + bitOf (eqb (t .key) key) ≡ cond (eqb (t .key) key) (weight t′) 0
+        weighed :
+            (key : ℕ) →
+            cond (eqb (t .key) key) (weight t) 0 + bitOf (eqb (t .key) key) ≡ cond (eqb (t .key) key) (weight t′) 0
         weighed key = go (eqb (t .key) key)
           where
             go : (b : Bool) → cond b (weight t) 0 + bitOf b ≡ cond b (weight t′) 0
             go true = omega arith
             go false = omega arith
 
-        one-more : (key : ℕ) → bitOf (holds (split (shapeOf m r) key) (insert e (f .shown))) ≡ bitOf (eqb (t .key) key) + bitOf (holds (split (shapeOf m r) key) (f .shown))
+        one-more :
+            (key : ℕ) →
+            bitOf (holds (split (shapeOf m r) key) (insert e (f .shown)))
+            ≡ bitOf (eqb (t .key) key) + bitOf (holds (split (shapeOf m r) key) (f .shown))
         one-more key =
             ap bitOf (holds-insert (split (shapeOf m r) key) e (f .shown))
             ∙ go (sameEntry (split (shapeOf m r) key) e) refl
@@ -508,7 +535,10 @@ module _ {m r : ℕ} {start : List ℕ} {w : World} (f : Fair m r start w) (i : 
                 let here = eqb-true key (t .key) (sym (same-split (shapeOf m r) key (t .key)) ∙ k) in
                 ap (λ (b : Bool). bitOf (b || holds (split (shapeOf m r) key) (f .shown))) k
                 ∙ sym
-                (ap₂ (λ (a b : Bool). bitOf a + bitOf b) (eq-eqb (t .key) key (sym here)) (ap (λ (y : Entry). holds y (f .shown)) (same-eq (split (shapeOf m r) key) e k) ∙ new))
+                (ap₂
+                (λ (a b : Bool). bitOf a + bitOf b)
+                (eq-eqb (t .key) key (sym here))
+                (ap (λ (y : Entry). holds y (f .shown)) (same-eq (split (shapeOf m r) key) e k) ∙ new))
             go false k =
                 let apart = eqb-false key (t .key) (sym (same-split (shapeOf m r) key (t .key)) ∙ k) in
                 ap (λ (b : Bool). bitOf (b || holds (split (shapeOf m r) key) (f .shown))) k
@@ -521,7 +551,8 @@ abbrev stepped-world : World → ℕ → Task → List Word → World
 stepped-world w i t ws =
     record { table = bytesOf ws; tasks = set (w .tasks) i t; given = w .given; said = heard t (w .said) }
 
-stage-last : {sh : Shape} {ws laid : List Word} {shown : List Entry} (t : Task) → Stage sh ws laid shown t → t .phase ≤ 13
+stage-last :
+    {sh : Shape} {ws laid : List Word} {shown : List Entry} (t : Task) → Stage sh ws laid shown t → t .phase ≤ 13
 stage-last t (at-rest (inl e)) = omega arith
 stage-last t (at-rest (inr e)) = omega arith
 stage-last t (at-home p k) = omega arith
@@ -555,7 +586,8 @@ module _ {m r : ℕ} {start : List ℕ} {w : World} (f : Fair m r start w) (i : 
     back : wordsOf (bytesOf (k .words)) ≡ k .words
     back = words-of-bytes (k .words) (k .shows .small)
 
-    inv-after : Inv (shapeOf m r) (wordsOf (bytesOf (k .words))) (set (w .tasks) i (k .next)) (k .laid-after) (k .shown-after)
+    inv-after :
+        Inv (shapeOf m r) (wordsOf (bytesOf (k .words))) (set (w .tasks) i (k .next)) (k .laid-after) (k .shown-after)
     inv-after =
         subst
         (λ (ws : List Word). Inv (shapeOf m r) ws (set (w .tasks) i (k .next)) (k .laid-after) (k .shown-after))
@@ -609,7 +641,9 @@ module _ {m r : ℕ} {start : List ℕ} {w : World} (f : Fair m r start w) (i : 
             later s (means-full e) = means-full e
             later s (means-shown e h) = means-shown e (left-of .grows (split (shapeOf m r) (s .key)) h)
 
-        meant : Answered (shapeOf m r) (k .shown-after) (k .next) → Means (shapeOf m r) (k .shown-after) (record { key = k .next .key; answer = k .next .answer })
+        meant :
+            Answered (shapeOf m r) (k .shown-after) (k .next) →
+            Means (shapeOf m r) (k .shown-after) (record { key = k .next .key; answer = k .next .answer })
         meant (says-full e) = means-full e
         meant (says-shown e h) = means-shown e h
 
@@ -628,12 +662,18 @@ module _ {m r : ℕ} {start : List ℕ} {w : World} (f : Fair m r start w) (i : 
         e = split (shapeOf m r) (taskAt (w .tasks) i .key)
 
         here : holds e us ≡ true
-        here = space .gives e (sym (listed-split (shapeOf m r) (taskAt (w .tasks) i .key) (w .given)) ∙ f .task-given i lt first last)
+        here =
+            space
+            .gives
+            e
+            (sym (listed-split (shapeOf m r) (taskAt (w .tasks) i .key) (w .given)) ∙ f .task-given i lt first last)
 
         inside : Inside (f .shown) us
         inside x h = either (holds x (entries (wordsOf start))) refl (sym (f .shown-is x) ∙ h)
           where
-            either : (b : Bool) → holds x (entries (wordsOf start)) ≡ b → (b || holds x (f .put)) ≡ true → holds x us ≡ true
+            either :
+                (b : Bool) → holds x (entries (wordsOf start)) ≡ b → (b || holds x (f .put)) ≡ true →
+                holds x us ≡ true
             either true y z = space .starts x y
             either false y z = space .gives x (f .put-given x z)
 
@@ -649,9 +689,14 @@ module _ {m r : ℕ} {start : List ℕ} {w : World} (f : Fair m r start w) (i : 
             inside
             here
             new
-            (full-room (table-guarded (shapeOf m r) (f .inv .plain .size) (f .inv .plain .table)) (in-home e (space .room) here) every)
+            (full-room
+            (table-guarded (shapeOf m r) (f .inv .plain .size) (f .inv .plain .table))
+            (in-home e (space .room) here)
+            every)
 
-    none-full-after : (us : List Entry) → Spacious m r start (w .given) us → NoneFull (set (w .tasks) i (k .next)) (heard (k .next) (w .said))
+    none-full-after :
+        (us : List Entry) → Spacious m r start (w .given) us →
+        NoneFull (set (w .tasks) i (k .next)) (heard (k .next) (w .said))
     none-full-after us space =
         record {
           of-busy = λ j l a b. others j l a b (same-or-not i j);
@@ -736,7 +781,9 @@ between : (t : Task) → t .phase ≤ 13 → atRest t ≡ false → (1 ≤ t .ph
 unfolding atRest
 between t le h = go (eqb (t .phase) 0) (eqb (t .phase) 13) refl refl h
   where
-    go : (a b : Bool) → eqb (t .phase) 0 ≡ a → eqb (t .phase) 13 ≡ b → (a || b) ≡ false → (1 ≤ t .phase) × (t .phase ≤ 12)
+    go :
+        (a b : Bool) → eqb (t .phase) 0 ≡ a → eqb (t .phase) 13 ≡ b → (a || b) ≡ false →
+        (1 ≤ t .phase) × (t .phase ≤ 12)
     go true b x y k = absurd (true≢false k)
     go false true x y k = absurd (true≢false k)
     go false false x y k =
@@ -750,7 +797,15 @@ rest-refused :
     atRest (taskAt (w .tasks) i) ≡ true → stepOf (shapeOf m r) (wordsOf (w .table)) (taskAt (w .tasks) i) ≡ refused 5
 unfolding stepOf
 rest-refused {m} {r} {start} {w} f i lt rest =
-    rw (stage-fits {ws = wordsOf (w .table)} {shown = f .shown} (f .inv .plain .size) (taskAt (w .tasks) i) (f .inv .stage i lt), rest)
+    rw (
+      stage-fits
+          {ws = wordsOf (w .table)}
+          {shown = f .shown}
+          (f .inv .plain .size)
+          (taskAt (w .tasks) i)
+          (f .inv .stage i lt),
+      rest,
+    )
 
 step-case : {m r : ℕ} {start : List ℕ} {w : World} (f : Fair m r start w) (i : ℕ) → StepCase f i
 unfolding step goodTask
@@ -774,7 +829,8 @@ step-case {m} {r} {start} {w} f i = go (ltb i (length (w .tasks))) refl
         resting lt rest (passed e ∙ ap (lentAfter (w .table) (w .tasks) i) (rest-refused f i lt rest))
     here e false rest =
         let lt = ltb-true i (length (w .tasks)) e in
-        let (first, last) = between (taskAt (w .tasks) i) (stage-last (taskAt (w .tasks) i) (f .inv .stage i lt)) rest in
+        let (first, last) =
+        between (taskAt (w .tasks) i) (stage-last (taskAt (w .tasks) i) (f .inv .stage i lt)) rest in
         let k = walk low (f .inv) i lt first last in
         walked lt first last k (passed e ∙ ap (lentAfter (w .table) (w .tasks) i) (k .step))
 
@@ -818,7 +874,9 @@ pub fair-act : {m r : ℕ} {start : List ℕ} {w : World} (a : Action) → Fair 
 fair-act (gives i key) f = fair-give i key f
 fair-act (steps i) f = fair-step i f
 
-pub fair-course : {m r : ℕ} {start : List ℕ} {w : World} (more : List Action) → Fair m r start w → Fair m r start (course m r w more)
+pub fair-course :
+    {m r : ℕ} {start : List ℕ} {w : World} (more : List Action) → Fair m r start w →
+    Fair m r start (course m r w more)
 unfolding course
 fair-course [] f = f
 fair-course (a ∷ more) f = fair-course more (fair-act a f)
@@ -837,7 +895,9 @@ pub step-answers :
     Fair m r start w → StepAnswer (w .tasks) i (answer-of (step m r (w .table) (w .tasks) i))
 step-answers {m} {r} {start} {w} i f = go (step-case f i)
   where
-    by : {x : Leaves Lent} → step m r (w .table) (w .tasks) i ≡ x → StepAnswer (w .tasks) i (answer-of x) → StepAnswer (w .tasks) i (answer-of (step m r (w .table) (w .tasks) i))
+    by :
+        {x : Leaves Lent} → step m r (w .table) (w .tasks) i ≡ x → StepAnswer (w .tasks) i (answer-of x) →
+        StepAnswer (w .tasks) i (answer-of (step m r (w .table) (w .tasks) i))
     by e s = subst (λ (x : Leaves Lent). StepAnswer (w .tasks) i (answer-of x)) (sym e) s
 
     go : StepCase f i → StepAnswer (w .tasks) i (answer-of (step m r (w .table) (w .tasks) i))

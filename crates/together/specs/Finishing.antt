@@ -27,16 +27,20 @@ use Rattle.theory.specs.Cut.{end, from, upTo}
 use Rattle.theory.specs.Motion.{toward, finish, Heads, rightward, leftward, heads, finish-move, finish-mark}
 use Rattle.theory.specs.Region.{finish-locks, finish-occupied, length-locks}
 use Rattle.demands.specs.Lent.{table-small}
-use Rattle.together.specs.Frames.{Within, at-set, at-other, finish-before, finish-after, locks-at, occupied-same, occupied-by}
+use Rattle.together.specs.Frames.{Within, at-set, at-other, finish-before, finish-after, locks-at}
+use Rattle.together.specs.Frames.{occupied-same, occupied-by}
 use Rattle.together.specs.Invariant.{Occupied, Looked, Moving, Owns, by-left, by-right, Reserves, Unfinished}
-use Rattle.together.specs.Invariant.{Inv, Ends, ends-found, ends-full, ends-inserted, RightEnd, right-found, right-full}
-use Rattle.together.specs.Invariant.{right-waiting, right-filled, Stage, at-rest, moving, marking, frees-left, frees-right}
+use Rattle.together.specs.Invariant.{Inv, Ends, ends-found, ends-full, ends-inserted, RightEnd, right-found}
+use Rattle.together.specs.Invariant.{right-full}
+use Rattle.together.specs.Invariant.{right-waiting, right-filled, Stage, at-rest, moving, marking, frees-left}
+use Rattle.together.specs.Invariant.{frees-right}
 use Rattle.together.specs.Stable.{word-of, from-ge, upTo-le, fills-as}
 use Rattle.together.specs.Update.{same-or-not}
 use Rattle.together.specs.Facts.{in-order, between-taken, plain-void}
 use Rattle.together.specs.Quiet.{apart-less, relocked, relocked-other, relock, relock-looked}
 use Rattle.together.specs.Stretch.{inside-stretch, within?}
-use Rattle.together.specs.Walk.{Walked, keeps, weight, weight-moving, step-by, in-table, looked-as, Answered, says-full, says-shown}
+use Rattle.together.specs.Walk.{Walked, keeps, weight, weight-moving, step-by, in-table, looked-as, Answered}
+use Rattle.together.specs.Walk.{says-full, says-shown}
 
 -- ---- an exchange, place by place: payloads change hands, a place's own bits stay
 record Exchanged (ws : List Word) (p q x : ℕ) : Type 0 where
@@ -215,8 +219,24 @@ module _ {sh : Shape} {ws : List Word} {ts : List Task} {laid : List Word} {show
               room = m .room;
               filled =
                   record {
-                    taken = exchange-taken ws (t .hand) to-place hand-inside next-inside (end (m .side) (t .left) (t .right)) ∙ m .filled .taken;
-                    kept = exchange-locks ws (t .hand) to-place hand-inside next-inside (end (m .side) (t .left) (t .right)) ∙ m .filled .kept;
+                    taken =
+                        exchange-taken
+                        ws
+                        (t .hand)
+                        to-place
+                        hand-inside
+                        next-inside
+                        (end (m .side) (t .left) (t .right))
+                        ∙ m .filled .taken;
+                    kept =
+                        exchange-locks
+                        ws
+                        (t .hand)
+                        to-place
+                        hand-inside
+                        next-inside
+                        (end (m .side) (t .left) (t .right))
+                        ∙ m .filled .kept;
                   };
               waiting =
                   exchange-elsewhere
@@ -294,7 +314,10 @@ module _ {sh : Shape} {ws : List Word} {ts : List Task} {laid : List Word} {show
               ends = λ e. absurd (omega arith);
               begun = omega arith;
               full = λ h. inl h;
-              effect = keeps (weight-moving (toPhase n (withHand to-place t)) a b ∙ sym (weight-moving t (omega arith) (omega arith)));
+              effect =
+                  keeps
+                  (weight-moving (toPhase n (withHand to-place t)) a b
+                  ∙ sym (weight-moving t (omega arith) (omega arith)));
             }
           where
             there : (q : ℕ) → Owns t q → Owns (toPhase n (withHand to-place t)) q
@@ -313,11 +336,21 @@ module _ {sh : Shape} {ws : List Word} {ts : List Task} {laid : List Word} {show
             go true e =
                 move-to 10 (omega arith) (omega arith)
                 (ap (λ (b : Bool). toPhase (cond b 10 9) (withHand to-place t)) e)
-                (marking refl k (looked-as t (toPhase 10 (withHand to-place t)) refl refl refl looked-moved) (eqb-true to-place (t .goal) e) (moving-on 10))
+                (marking
+                refl
+                k
+                (looked-as t (toPhase 10 (withHand to-place t)) refl refl refl looked-moved)
+                (eqb-true to-place (t .goal) e)
+                (moving-on 10))
             go false e =
                 move-to 9 (omega arith) (omega arith)
                 (ap (λ (b : Bool). toPhase (cond b 10 9) (withHand to-place t)) e)
-                (moving refl k (looked-as t (toPhase 9 (withHand to-place t)) refl refl refl looked-moved) (eqb-false to-place (t .goal) e) (moving-on 9))
+                (moving
+                refl
+                k
+                (looked-as t (toPhase 9 (withHand to-place t)) refl refl refl looked-moved)
+                (eqb-false to-place (t .goal) e)
+                (moving-on 9))
 
     -- ---- phase 10
     module _ (p : t .phase ≡ 10) (k : t .key < keys sh) (x : Looked sh ws t) (there : t .hand ≡ t .goal)
@@ -345,12 +378,20 @@ module _ {sh : Shape} {ws : List Word} {ts : List Task} {laid : List Word} {show
         done-outside q far = go (in-order (t .left) q) (in-order q (t .right))
           where
             hand-in : Within (t .left) (t .right) (t .hand)
-            hand-in =
-                (omega (arith, m .hand-low, from-ge (m .side) (t .left)), omega (arith, m .hand-high, upTo-le (m .side) (t .right)))
+            hand-in = (
+              omega
+                  (arith, m .hand-low, from-ge (m .side) (t .left)),
+              omega
+                  (arith, m .hand-high, upTo-le (m .side) (t .right)),
+            )
 
             goal-in : Within (t .left) (t .right) (t .goal)
-            goal-in =
-                (omega (arith, m .goal-low, from-ge (m .side) (t .left)), omega (arith, m .goal-high, upTo-le (m .side) (t .right)))
+            goal-in = (
+              omega
+                  (arith, m .goal-low, from-ge (m .side) (t .left)),
+              omega
+                  (arith, m .goal-high, upTo-le (m .side) (t .right)),
+            )
 
             home-in : Within (t .left) (t .right) (homePlace sh t)
             home-in = (omega (arith, x .leftward .below), omega (arith, x .above))
@@ -364,9 +405,39 @@ module _ {sh : Shape} {ws : List Word} {ts : List Task} {laid : List Word} {show
             go : (t .left ≤ q) ⊎ (q < t .left) → (q ≤ t .right) ⊎ (t .right < q) → at done q ≡ at ws q
             go (inl a) (inl b) = absurd (far (a, b))
             go (inr a) b =
-                finish-before ws (t .left) (t .right) le (in-table low inv i lt (x .inside)) (t .hand) (t .goal) (t .mark) (homePlace sh t) hand-in goal-in home-in closes q a
+                finish-before
+                ws
+                (t .left)
+                (t .right)
+                le
+                (in-table low inv i lt (x .inside))
+                (t .hand)
+                (t .goal)
+                (t .mark)
+                (homePlace sh t)
+                hand-in
+                goal-in
+                home-in
+                closes
+                q
+                a
             go (inl a) (inr b) =
-                finish-after ws (t .left) (t .right) le (in-table low inv i lt (x .inside)) (t .hand) (t .goal) (t .mark) (homePlace sh t) hand-in goal-in home-in closes q b
+                finish-after
+                ws
+                (t .left)
+                (t .right)
+                le
+                (in-table low inv i lt (x .inside))
+                (t .hand)
+                (t .goal)
+                (t .mark)
+                (homePlace sh t)
+                hand-in
+                goal-in
+                home-in
+                closes
+                q
+                b
 
         done-small : (q : ℕ) → at done q .remainder < 4096
         done-small q = go (within? (t .left) (t .right) q)
@@ -515,7 +586,13 @@ module _ {sh : Shape} {ws : List Word} {ts : List Task} {laid : List Word} {show
               (looked-as t (toPhase 12 t) refl refl refl (relock-looked t (t .left) false inside x))
               (right-of-ends
               12
-              (relocked-other ws (t .left) false inside (t .right) (λ (e : t .right ≡ t .left). omega (arith, x .leftward .below, x .above)))
+              (relocked-other
+              ws
+              (t .left)
+              false
+              inside
+              (t .right)
+              (λ (e : t .right ≡ t .left). omega (arith, x .leftward .below, x .above)))
               ends))
               (λ u a s. apart-less back (λ (r : Reserves (toPhase 12 t)). absurd (omega (arith, r .to-10))) a)
               (λ q n o. kept q n o)

@@ -25,7 +25,8 @@ use Rattle.theory.specs.Gaps.{Side, HomePlace}
 use Rattle.theory.specs.Cut.{end, from, upTo}
 use Rattle.theory.specs.Moving.{last-follows}
 use Rattle.together.specs.Invariant.{Looked, Fills, Ready, Moving}
-use Rattle.together.specs.Invariant.{Stage, at-rest, at-home, looks-left, looks-right, owns-left, owns-both, has-read}
+use Rattle.together.specs.Invariant.{Stage, at-rest, at-home, looks-left, looks-right, owns-left, owns-both}
+use Rattle.together.specs.Invariant.{has-read}
 use Rattle.together.specs.Invariant.{moving, marking, frees-left, frees-right}
 use Rattle.together.specs.Facts.{FitsHand, FitsBusy, fits-busy}
 
@@ -185,7 +186,20 @@ module _ {sh : Shape} {ws laid : List Word} {shown : List Entry} (size : length 
         left = λ q. x .leftward .below;
         right = λ q. (x .above, x .inside);
         hand = λ a b.
-            hand-fits sh t (y .side) (y .fills) (y .room) (x .above) (x .inside) (n .hand-low) (n .hand-high) (n .goal-low) (n .goal-high) (n .marks) (n .closes);
+            hand-fits
+            sh
+            t
+            (y .side)
+            (y .fills)
+            (y .room)
+            (x .above)
+            (x .inside)
+            (n .hand-low)
+            (n .hand-high)
+            (n .goal-low)
+            (n .goal-high)
+            (n .marks)
+            (n .closes);
         at-8 = λ q. either (end-either (y .side) (t .left) (t .right));
         at-9 = λ q. absurd (omega arith);
         at-10 = λ q. absurd (omega arith);
@@ -216,7 +230,20 @@ module _ {sh : Shape} {ws laid : List Word} {shown : List Entry} (size : length 
         left = λ q. x .leftward .below;
         right = λ q. (x .above, x .inside);
         hand = λ p q.
-            hand-fits sh t (y .side) (y .fills) (y .room) (x .above) (x .inside) (y .hand-low) (y .hand-high) (y .goal-low) (y .goal-high) (y .mark) (y .closes);
+            hand-fits
+            sh
+            t
+            (y .side)
+            (y .fills)
+            (y .room)
+            (x .above)
+            (x .inside)
+            (y .hand-low)
+            (y .hand-high)
+            (y .goal-low)
+            (y .goal-high)
+            (y .mark)
+            (y .closes);
         at-8 = λ q. absurd (omega arith);
         at-9 = apart;
         at-10 = there;
@@ -257,12 +284,16 @@ module _ {sh : Shape} {ws laid : List Word} {shown : List Entry} (size : length 
         at-10 = λ q. absurd (omega arith);
       })
   stage-fits t (looks-right p q k x) = fits-busy sh t (looked-fits t p (omega arith) (λ a b. omega arith) k x)
-  stage-fits t (owns-left p q k x e) = fits-busy sh t (looked-fits t (omega arith) (omega arith) (λ a b. omega arith) k x)
-  stage-fits t (owns-both p k x e f) = fits-busy sh t (looked-fits t (omega arith) (omega arith) (λ a b. omega arith) k x)
+  stage-fits t (owns-left p q k x e) =
+      fits-busy sh t (looked-fits t (omega arith) (omega arith) (λ a b. omega arith) k x)
+  stage-fits t (owns-both p k x e f) =
+      fits-busy sh t (looked-fits t (omega arith) (omega arith) (λ a b. omega arith) k x)
   stage-fits t (has-read p k x e f y) = fits-busy sh t (ready-fits t p k x y)
   stage-fits t (moving p k x n y) =
       fits-busy sh t (moving-fits t (omega arith) (omega arith) k x y (λ q. n) (λ q. absurd (omega arith)))
   stage-fits t (marking p k x n y) =
       fits-busy sh t (moving-fits t (omega arith) (omega arith) k x y (λ q. absurd (omega arith)) (λ q. n))
-  stage-fits t (frees-left p k x y) = fits-busy sh t (looked-fits t (omega arith) (omega arith) (λ a b. omega arith) k x)
-  stage-fits t (frees-right p k x y) = fits-busy sh t (looked-fits t (omega arith) (omega arith) (λ a b. omega arith) k x)
+  stage-fits t (frees-left p k x y) =
+      fits-busy sh t (looked-fits t (omega arith) (omega arith) (λ a b. omega arith) k x)
+  stage-fits t (frees-right p k x y) =
+      fits-busy sh t (looked-fits t (omega arith) (omega arith) (λ a b. omega arith) k x)

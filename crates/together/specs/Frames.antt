@@ -1,4 +1,5 @@
--- What finishing a task's words reads and writes, place by place: nothing outside the stretch in which hand, goal and home lie.
+-- What finishing a task's words reads and writes, place by place: nothing outside the stretch in which hand, goal and
+-- home lie.
 -- Assumes nothing.
 use Prim.Native.Nat.{ℕ, suc, _+_, _-_, _≤_, _<_}
 use mathlib.Core.Path.{_≡_, sym, ap, _∙_}
@@ -7,7 +8,8 @@ use mathlib.Core.Bool.{Bool, false}
 use mathlib.Core.List.{List, _++_, append-assoc, map}
 use native.Mathlib.Omega.{arith}
 use lib.ListN.{length, getD, take, drop, set, length-append, take-append-drop, List·getD-append, List·getD-map}
-use lib.Seq.{slice, length-slice, length-take-le, take-take, getD-append-add, getD-take, getD-drop, getD-set-same, getD-set-other, ext-getD}
+use lib.Seq.{slice, length-slice, length-take-le, take-take, getD-append-add, getD-take, getD-drop, getD-set-same}
+use lib.Seq.{getD-set-other, ext-getD}
 use Rattle.rules.specs.Word.{Word, zeroWord}
 use Rattle.rules.specs.Table.{at, occupied}
 use Rattle.theory.specs.Run.{unlock}

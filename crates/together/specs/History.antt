@@ -1,5 +1,5 @@
--- Counting over the records and the history: how often a key is busy, loaded (put and not yet answered), answered; and what a give and
--- a step do to these counts.
+-- Counting over the records and the history: how often a key is busy, loaded (put and not yet answered), answered;
+-- and what a give and a step do to these counts.
 -- Assumes nothing.
 use Prim.Native.Nat.{ℕ, zero, suc, _+_, _*_, _≤_, _<_}
 use mathlib.Core.Path.{_≡_, refl, sym, ap, ap₂, _∙_, subst}
@@ -9,7 +9,8 @@ use mathlib.Core.List.{List, [], _∷_, _++_, map}
 use native.Mathlib.Omega.{arith}
 use lib.ListN.{length, getD, set, length-set}
 use lib.Dec.{eqb, leb, ltb}
-use borrow.Author.Tests.{eqb-true, eqb-false, eq-eqb, ne-eqb, le-leb, lt-leb, leb-true, leb-false, lt-ltb, ltb-true, le-ltb, ltb-false}
+use borrow.Author.Tests.{eqb-true, eqb-false, eq-eqb, ne-eqb, le-leb, lt-leb, leb-true, leb-false, lt-ltb, ltb-true}
+use borrow.Author.Tests.{le-ltb, ltb-false}
 use Rattle.rules.specs.declared.Shape.{Shape}
 use Rattle.rules.specs.declared.Task.{Task}
 use Rattle.rules.specs.Lists.{bitOf, count, all, any}
@@ -75,7 +76,9 @@ pub rest-phase : (t : Task) → atRest t ≡ true → (t .phase ≡ 0) ⊎ (t .p
 unfolding atRest
 rest-phase t h = go (eqb (t .phase) 0) (eqb (t .phase) 13) refl refl h
   where
-    go : (a b : Bool) → eqb (t .phase) 0 ≡ a → eqb (t .phase) 13 ≡ b → (a || b) ≡ true → (t .phase ≡ 0) ⊎ (t .phase ≡ 13)
+    go :
+        (a b : Bool) → eqb (t .phase) 0 ≡ a → eqb (t .phase) 13 ≡ b → (a || b) ≡ true →
+        (t .phase ≡ 0) ⊎ (t .phase ≡ 13)
     go true b x y k = inl (eqb-true (t .phase) 0 x)
     go false true x y k = inr (eqb-true (t .phase) 13 y)
     go false false x y k = absurd (false≢true k)
@@ -95,7 +98,18 @@ pub tally-step :
     taskAt ts i .phase ≤ 12 →
     t′ .phase ≤ 13 →
     t′ .key ≡ taskAt ts i .key →
-    timesInserted key (heard t′ ss) + timesLoaded key (set ts i t′) + cond (eqb (taskAt ts i .key) key) (weight (taskAt ts i)) 0
+    timesInserted
+    key
+    (heard t′ ss)
+    +
+    timesLoaded
+    key
+    (set ts i t′)
+    +
+    cond
+    (eqb (taskAt ts i .key) key)
+    (weight (taskAt ts i))
+    0
     ≡ timesInserted key ss + timesLoaded key ts + cond (eqb (taskAt ts i .key) key) (weight t′) 0
 unfolding timesInserted timesLoaded count
 tally-step key ts i t′ ss lt before after same = go (eqb (t′ .phase) 13) refl
@@ -106,11 +120,15 @@ tally-step key ts i t′ ss lt before after same = go (eqb (t′ .phase) 13) ref
     mine : eqb (t′ .key) key ≡ eqb (t .key) key
     mine = ap (λ (k : ℕ). eqb k key) same
 
-    moved : count (λ (u : Task). eqb (u .key) key && loaded u) (set ts i t′) + bitOf (eqb (t .key) key && loaded t) ≡ count (λ (u : Task). eqb (u .key) key && loaded u) ts + bitOf (eqb (t′ .key) key && loaded t′)
+    moved :
+        count (λ (u : Task). eqb (u .key) key && loaded u) (set ts i t′) + bitOf (eqb (t .key) key && loaded t)
+        ≡ count (λ (u : Task). eqb (u .key) key && loaded u) ts + bitOf (eqb (t′ .key) key && loaded t′)
     moved = count-set (λ (u : Task). eqb (u .key) key && loaded u) ts i t′ noTask lt
 
     old : bitOf (eqb (t .key) key && loaded t) ≡ cond (eqb (t .key) key) (weight t) 0
-    old = guard-bit (eqb (t .key) key) (loaded t) ∙ ap (λ (n : ℕ). cond (eqb (t .key) key) n 0) (sym (load-busy t before))
+    old =
+        guard-bit (eqb (t .key) key) (loaded t)
+        ∙ ap (λ (n : ℕ). cond (eqb (t .key) key) n 0) (sym (load-busy t before))
 
     go :
         (b : Bool) →
@@ -123,15 +141,26 @@ tally-step key ts i t′ ss lt before after same = go (eqb (t′ .phase) 13) ref
         + cond (eqb (t .key) key) (weight t′) 0
     go true e =
         let done = eqb-true (t′ .phase) 13 e in
-        let none : bitOf (eqb (t′ .key) key && loaded t′) ≡ 0 = guard-bit (eqb (t′ .key) key) (loaded t′) ∙ ap (λ (b : Bool). cond (eqb (t′ .key) key) (bitOf b) 0) (unloaded-done t′ done) ∙ nothing (eqb (t′ .key) key) in
-        let new : bitOf (eqb (t′ .key) key && eqb (t′ .answer) 2) ≡ cond (eqb (t .key) key) (weight t′) 0 = guard-bit (eqb (t′ .key) key) (eqb (t′ .answer) 2) ∙ ap₂ (λ (b : Bool) (n : ℕ). cond b n 0) mine (sym (load-done t′ done)) in
+        let none : bitOf (eqb (t′ .key) key && loaded t′) ≡ 0 =
+        guard-bit (eqb (t′ .key) key) (loaded t′)
+        ∙ ap (λ (b : Bool). cond (eqb (t′ .key) key) (bitOf b) 0) (unloaded-done t′ done)
+        ∙ nothing (eqb (t′ .key) key) in
+        let new : bitOf (eqb (t′ .key) key && eqb (t′ .answer) 2) ≡ cond (eqb (t .key) key) (weight t′) 0 =
+        guard-bit (eqb (t′ .key) key) (eqb (t′ .answer) 2)
+        ∙ ap₂ (λ (b : Bool) (n : ℕ). cond b n 0) mine (sym (load-done t′ done)) in
         omega (arith, moved, old)
       where
         nothing : (b : Bool) → cond {A = ℕ} b 0 0 ≡ 0
         nothing true = refl
         nothing false = refl
     go false e =
-        let new : bitOf (eqb (t′ .key) key && loaded t′) ≡ cond (eqb (t .key) key) (weight t′) 0 = guard-bit (eqb (t′ .key) key) (loaded t′) ∙ ap₂ (λ (b : Bool) (n : ℕ). cond b n 0) mine (sym (load-busy t′ (still-busy (eqb-false (t′ .phase) 13 e)))) in
+        let new : bitOf (eqb (t′ .key) key && loaded t′) ≡ cond (eqb (t .key) key) (weight t′) 0 =
+        guard-bit (eqb (t′ .key) key) (loaded t′)
+        ∙ ap₂
+        (λ (b : Bool) (n : ℕ). cond b n 0)
+        mine
+        (sym (load-busy t′ (still-busy (eqb-false (t′ .phase) 13 e))))
+        in
         omega (arith, moved, old)
       where
         still-busy : t′ .phase ≢ 13 → t′ .phase ≤ 12
@@ -162,7 +191,9 @@ answers-step key ts i t′ ss lt first before next-first after same = go (eqb (t
     moved = count-set (λ (u : Task). eqb (u .key) key && busy u) ts i t′ noTask lt
 
     old : bitOf (eqb (t .key) key && busy t) ≡ bitOf (eqb (t .key) key)
-    old = ap (λ (b : Bool). bitOf (eqb (t .key) key && b)) (busy-is t first before) ∙ ap bitOf (and-true (eqb (t .key) key))
+    old =
+        ap (λ (b : Bool). bitOf (eqb (t .key) key && b)) (busy-is t first before)
+        ∙ ap bitOf (and-true (eqb (t .key) key))
 
     go :
         (b : Bool) →
@@ -171,11 +202,15 @@ answers-step key ts i t′ ss lt first before next-first after same = go (eqb (t
         + count (λ (u : Task). eqb (u .key) key && busy u) (set ts i t′)
         ≡ count (λ (s : Said). eqb (s .key) key) ss + count (λ (u : Task). eqb (u .key) key && busy u) ts
     go true e =
-        let none : bitOf (eqb (t′ .key) key && busy t′) ≡ 0 = ap (λ (b : Bool). bitOf (eqb (t′ .key) key && b)) (idle-done t′ (eqb-true (t′ .phase) 13 e)) ∙ ap bitOf (and-false (eqb (t′ .key) key)) in
+        let none : bitOf (eqb (t′ .key) key && busy t′) ≡ 0 =
+        ap (λ (b : Bool). bitOf (eqb (t′ .key) key && b)) (idle-done t′ (eqb-true (t′ .phase) 13 e))
+        ∙ ap bitOf (and-false (eqb (t′ .key) key)) in
         omega (arith, moved, old, ap bitOf mine)
     go false e =
         let apart = eqb-false (t′ .phase) 13 e in
-        let new : bitOf (eqb (t′ .key) key && busy t′) ≡ bitOf (eqb (t′ .key) key) = ap (λ (b : Bool). bitOf (eqb (t′ .key) key && b)) (busy-is t′ next-first (omega arith)) ∙ ap bitOf (and-true (eqb (t′ .key) key)) in
+        let new : bitOf (eqb (t′ .key) key && busy t′) ≡ bitOf (eqb (t′ .key) key) =
+        ap (λ (b : Bool). bitOf (eqb (t′ .key) key && b)) (busy-is t′ next-first (omega arith))
+        ∙ ap bitOf (and-true (eqb (t′ .key) key)) in
         omega (arith, moved, old, ap bitOf mine)
 
 -- a give to a task at rest
@@ -188,7 +223,8 @@ pub give-tally :
     × (timesBusy key (set ts i t′) ≡ timesBusy key ts + bitOf (eqb (t′ .key) key))
 unfolding timesLoaded timesBusy
 give-tally key ts i t′ lt rest one = (
-  omega (arith, count-set (λ (u : Task). eqb (u .key) key && loaded u) ts i t′ noTask lt, light (loaded-rest rest), light′),
+  omega
+      (arith, count-set (λ (u : Task). eqb (u .key) key && loaded u) ts i t′ noTask lt, light (loaded-rest rest), light′),
   omega (arith, count-set (λ (u : Task). eqb (u .key) key && busy u) ts i t′ noTask lt, idle (busy-rest rest), new),
 )
   where
@@ -239,5 +275,7 @@ quiet-counts key (t ∷ ts) rest =
         ∙ ap bitOf (and-false (eqb (t .key) key))
 
     idle : (t .phase ≡ 0) ⊎ (t .phase ≡ 13) → bitOf (eqb (t .key) key && busy t) ≡ 0
-    idle (inl e) = ap (λ (b : Bool). bitOf (eqb (t .key) key && b)) (idle-zero t e) ∙ ap bitOf (and-false (eqb (t .key) key))
-    idle (inr e) = ap (λ (b : Bool). bitOf (eqb (t .key) key && b)) (idle-done t e) ∙ ap bitOf (and-false (eqb (t .key) key))
+    idle (inl e) =
+        ap (λ (b : Bool). bitOf (eqb (t .key) key && b)) (idle-zero t e) ∙ ap bitOf (and-false (eqb (t .key) key))
+    idle (inr e) =
+        ap (λ (b : Bool). bitOf (eqb (t .key) key && b)) (idle-done t e) ∙ ap bitOf (and-false (eqb (t .key) key))

@@ -1,6 +1,7 @@
--- The invariant of demand 3. Beside the table's words stands a plain table, `laid`: the words as they would be with every move finished
--- and every lock cleared. A key is put into `laid` at the moment its task fills a place (phase 1 on an empty home, phase 8).
--- `Stage` says of one task, phase by phase, what it may rely on; `Apart` of two tasks what they do not share; `Inv` joins them.
+-- The invariant of demand 3. Beside the table's words stands a plain table, `laid`: the words as they would be with
+-- every move finished and every lock cleared. A key is put into `laid` at the moment its task fills a place (phase 1
+-- on an empty home, phase 8). `Stage` says of one task, phase by phase, what it may rely on; `Apart` of two tasks
+-- what they do not share; `Inv` joins them.
 -- Assumes nothing.
 use Prim.Native.Nat.{ℕ, _+_, _≤_, _<_}
 use mathlib.Core.Path.{_≡_}
@@ -30,7 +31,8 @@ abbrev pub Occupied : List Word → ℕ → Type 0
 Occupied ws p = at ws p .occupied ≡ true
 
 -- ---- one task
--- from the home to the left everything up to, not including, left was seen occupied, and stays so: no step empties a place
+-- from the home to the left everything up to, not including, left was seen occupied, and stays so: no step empties a
+-- place
 pub record LookedLeft (sh : Shape) (ws : List Word) (t : Task) : Type 0 where
   pub below : t .left < homePlace sh t
   pub taken : (q : ℕ) → t .left < q → q ≤ homePlace sh t → Occupied ws q
@@ -64,7 +66,8 @@ pub record Ready (sh : Shape) (laid : List Word) (shown : List Entry) (t : Task)
   pub mark : t .mark ≡ markOf (split sh (t .key)) (entriesBetween laid (t .left) (t .right))
   pub new : holds (split sh (t .key)) shown ≡ false
 
--- phases 9 and 10: the fill has happened; the moves that are left and the mark make the table laid of the words between left and right
+-- phases 9 and 10: the fill has happened; the moves that are left and the mark make the table laid of the words
+-- between left and right
 pub record Moving (sh : Shape) (ws laid : List Word) (shown : List Entry) (t : Task) : Type 0 where
   pub side : Side
   pub fills : Fills side t
@@ -129,8 +132,12 @@ pub data Stage (sh : Shape) (ws laid : List Word) (shown : List Entry) (t : Task
       t .key < keys sh →
       Looked sh ws t →
       at ws (t .left) ≡ lockWord → at ws (t .right) ≡ lockWord → Ready sh laid shown t → Stage sh ws laid shown t
-  moving : t .phase ≡ 9 → t .key < keys sh → Looked sh ws t → t .hand ≢ t .goal → Moving sh ws laid shown t → Stage sh ws laid shown t
-  marking : t .phase ≡ 10 → t .key < keys sh → Looked sh ws t → t .hand ≡ t .goal → Moving sh ws laid shown t → Stage sh ws laid shown t
+  moving :
+      t .phase ≡ 9 → t .key < keys sh → Looked sh ws t → t .hand ≢ t .goal → Moving sh ws laid shown t →
+      Stage sh ws laid shown t
+  marking :
+      t .phase ≡ 10 → t .key < keys sh → Looked sh ws t → t .hand ≡ t .goal → Moving sh ws laid shown t →
+      Stage sh ws laid shown t
   frees-left : t .phase ≡ 11 → t .key < keys sh → Looked sh ws t → Ends sh ws shown t → Stage sh ws laid shown t
   frees-right : t .phase ≡ 12 → t .key < keys sh → Looked sh ws t → RightEnd sh ws shown t → Stage sh ws laid shown t
 
@@ -145,8 +152,8 @@ pub record Reserves (t : Task) : Type 0 where
   pub from-7 : 7 ≤ t .phase
   pub to-10 : t .phase ≤ 10
 
--- no place has two owners, and no two tasks reserve the same words. The second does not follow from the first: it is what the test of
--- both ends at the step from phase 5 to 7 gives
+-- no place has two owners, and no two tasks reserve the same words. The second does not follow from the first: it is
+-- what the test of both ends at the step from phase 5 to 7 gives
 pub record Apart (t u : Task) : Type 0 where
   pub owners : (p : ℕ) → Owns t p → Owns u p → ⊥
   pub stretches : Reserves t → Reserves u → (p : ℕ) → Within (t .left) (t .right) p → Within (u .left) (u .right) p → ⊥

@@ -1,4 +1,5 @@
--- Runs of gives and steps, over the definitions that the contracts of give and step cite: what is lent, and the history.
+-- Runs of gives and steps, over the definitions that the contracts of give and step cite: what is lent, and the
+-- history.
 -- Assumes nothing.
 use Prim.Native.Nat.{ℕ}
 use mathlib.Core.Bool.{Bool, cond, _&&_}

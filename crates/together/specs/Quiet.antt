@@ -1,5 +1,5 @@
--- Steps that put no key: those that write nothing (`still`), those that set or clear one lock (`relock`), and those that write between
--- their own ends (`inside-stretch`). The table laid stays as it is.
+-- Steps that put no key: those that write nothing (`still`), those that set or clear one lock (`relock`), and those
+-- that write between their own ends (`inside-stretch`). The table laid stays as it is.
 -- Assumes nothing.
 use Prim.Native.Nat.{ℕ, _≤_, _<_}
 use mathlib.Core.Path.{_≡_, refl, sym, ap, _∙_, subst, subst₂}
@@ -22,8 +22,10 @@ use Rattle.theory.specs.Cut.{end}
 use Rattle.theory.specs.Locks.{occupied-unlock}
 use Rattle.together.specs.Frames.{Within, at-set, at-other, same-words, at-unlocked}
 use Rattle.together.specs.Invariant.{Looked, FilledEnd, Owns, by-left, by-right, Reserves, Apart, Unfinished, Inv}
-use Rattle.together.specs.Invariant.{Ends, ends-found, ends-full, ends-inserted, RightEnd, right-found, right-full, right-waiting}
-use Rattle.together.specs.Invariant.{right-filled, Stage, at-rest, at-home, looks-left, looks-right, owns-left, owns-both, has-read}
+use Rattle.together.specs.Invariant.{Ends, ends-found, ends-full, ends-inserted, RightEnd, right-found}
+use Rattle.together.specs.Invariant.{right-full, right-waiting}
+use Rattle.together.specs.Invariant.{right-filled, Stage, at-rest, at-home, looks-left, looks-right, owns-left}
+use Rattle.together.specs.Invariant.{owns-both, has-read}
 use Rattle.together.specs.Invariant.{moving, marking, frees-left, frees-right}
 use Rattle.together.specs.Stable.{Frame, LetsAlone, stage-stable}
 use Rattle.together.specs.Update.{Steps, same-or-not}
@@ -145,7 +147,9 @@ module _ (ws : List Word) (p : ℕ) (b : Bool) (lt : p < length ws) where
   pub relocked-words : (q : ℕ) → unlock (at relocked q) ≡ unlock (at ws q)
   relocked-words q = go (relocked-at q)
     where
-      go : ((q ≡ p) × (at relocked q ≡ withLock b (at ws p))) ⊎ (at relocked q ≡ at ws q) → unlock (at relocked q) ≡ unlock (at ws q)
+      go :
+          ((q ≡ p) × (at relocked q ≡ withLock b (at ws p))) ⊎ (at relocked q ≡ at ws q) →
+          unlock (at relocked q) ≡ unlock (at ws q)
       go (inl (e, x)) = ap unlock x ∙ ap (λ (r : ℕ). unlock (at ws r)) (sym e)
       go (inr x) = ap unlock x
 

@@ -26,7 +26,8 @@ use Rattle.theory.specs.Gaps.{AllTaken}
 use Rattle.theory.specs.Places.{occupied-at}
 use Rattle.together.specs.Frames.{occupied-same}
 use Rattle.together.specs.Facts.{between-taken}
-use Rattle.together.specs.Invariant.{Looked, Ready, Owns, by-left, by-right, Unfinished, Inv, Stage, has-read, frees-left}
+use Rattle.together.specs.Invariant.{Looked, Ready, Owns, by-left, by-right, Unfinished, Inv, Stage, has-read}
+use Rattle.together.specs.Invariant.{frees-left}
 use Rattle.together.specs.Invariant.{ends-found, ends-full}
 use Rattle.together.specs.Update.{Steps}
 use Rattle.together.specs.Quiet.{still}
@@ -69,7 +70,9 @@ module _ {sh : Shape} {ws : List Word} {ts : List Task} {laid : List Word} {show
     due = rw (can-read, see .entries)
 
     -- a step from phase 7 that keeps both ends
-    kept : (t′ : Task) → 7 ≤ t′ .phase → t′ .phase ≤ 11 → t′ .left ≡ t .left → t′ .right ≡ t .right → (t′ .phase ≤ 8) ⊎ (11 ≤ t′ .phase) → Stage sh ws laid shown t′ → Steps sh ws ts laid shown i t′ ws laid shown
+    kept :
+        (t′ : Task) → 7 ≤ t′ .phase → t′ .phase ≤ 11 → t′ .left ≡ t .left → t′ .right ≡ t .right →
+        (t′ .phase ≤ 8) ⊎ (11 ≤ t′ .phase) → Stage sh ws laid shown t′ → Steps sh ws ts laid shown i t′ ws laid shown
     kept t′ a b l r c stage =
         still
         i
@@ -102,7 +105,11 @@ module _ {sh : Shape} {ws : List Word} {ts : List Task} {laid : List Word} {show
           step = step-by low inv i lt 7 (omega arith) (omega arith) p (due ∙ rw h);
           shows =
               kept next (omega arith) (omega arith) refl refl (inr (omega arith))
-              (frees-left refl k (looked-as t next refl refl refl x) (ends-found refl (sym (see .same) ∙ h) left-held right-held));
+              (frees-left
+              refl
+              k
+              (looked-as t next refl refl refl x)
+              (ends-found refl (sym (see .same) ∙ h) left-held right-held));
           same-key = refl;
           ends = λ c. absurd (omega arith);
           begun = omega arith;

@@ -1,5 +1,5 @@
--- A fair history when every task is idle or done: the words are those laid, each give has been answered, and where there was room the
--- bytes are those of puts. The statements are in Demand3.
+-- A fair history when every task is idle or done: the words are those laid, each give has been answered, and where
+-- there was room the bytes are those of puts. The statements are in Demand3.
 -- Assumes nothing.
 use Prim.Native.Nat.{ℕ, zero, suc, _+_, _*_, _≤_, _<_}
 use mathlib.Core.Path.{_≡_, refl, sym, ap, ap₂, _∙_, subst}
@@ -35,7 +35,8 @@ use Rattle.theory.specs.Building.{Roomy, Inside, subset-length}
 use Rattle.demands.specs.Terms.{SoundTable, PlainTable, InKeys, entriesOf, listOf, distinct, putAll}
 use Rattle.demands.specs.Lent.{in-range-of, low-of, plain-of}
 use Rattle.demands.specs.Proof2.{same-split, split-keys, in-shape, listed-here, ascending-list}
-use Rattle.demands.specs.Proof3.{listed-split, held-key, keys-roomy, all-both, map-both, put-all-plain, ascending-keys, all-within}
+use Rattle.demands.specs.Proof3.{listed-split, held-key, keys-roomy, all-both, map-both, put-all-plain}
+use Rattle.demands.specs.Proof3.{ascending-keys, all-within}
 use Rattle.demands.specs.Demand2.{puts-any-order}
 use Rattle.together.specs.Invariant.{Owns, Unfinished, Inv}
 use Rattle.together.specs.Facts.{words-size, in-order}
@@ -59,7 +60,9 @@ unfolding listed any timesGiven count
 listed-times key [] h = absurd (false≢true h)
 listed-times key (k ∷ ks) h = go (eqb key k) h (listed-times key ks)
   where
-    go : (b : Bool) → (b || listed key ks) ≡ true → (listed key ks ≡ true → 1 ≤ timesGiven key ks) → 1 ≤ bitOf b + timesGiven key ks
+    go :
+        (b : Bool) → (b || listed key ks) ≡ true → (listed key ks ≡ true → 1 ≤ timesGiven key ks) →
+        1 ≤ bitOf b + timesGiven key ks
     go true h more = omega arith
     go false h more = omega (arith, more h)
 
@@ -69,7 +72,9 @@ unfolding listed any timesGiven count
 times-listed key [] h = absurd (omega arith)
 times-listed key (k ∷ ks) h = go (eqb key k) h (times-listed key ks)
   where
-    go : (b : Bool) → 1 ≤ bitOf b + timesGiven key ks → (1 ≤ timesGiven key ks → listed key ks ≡ true) → (b || listed key ks) ≡ true
+    go :
+        (b : Bool) → 1 ≤ bitOf b + timesGiven key ks → (1 ≤ timesGiven key ks → listed key ks ≡ true) →
+        (b || listed key ks) ≡ true
     go true h more = refl
     go false h more = more (omega arith)
 
@@ -80,7 +85,9 @@ listed-in-keys sh key [] h k = absurd (false≢true k)
 listed-in-keys sh key (j ∷ ks) h k =
     go (eqb key j) refl k (listed-in-keys sh key ks (and-right (ltb j (keys sh)) _ h))
   where
-    go : (b : Bool) → eqb key j ≡ b → (b || listed key ks) ≡ true → (listed key ks ≡ true → key < keys sh) → key < keys sh
+    go :
+        (b : Bool) → eqb key j ≡ b → (b || listed key ks) ≡ true → (listed key ks ≡ true → key < keys sh) →
+        key < keys sh
     go true e k more =
         omega (arith, eqb-true key j e, ltb-true j (keys sh) (and-left (ltb j (keys sh)) _ h))
     go false e k more = more k
@@ -103,7 +110,8 @@ said-shown :
     All (λ (s : Said). s .answer ≢ 3) ss → 1 ≤ timesSaid key ss → holds (split sh key) shown ≡ true
 unfolding timesSaid count
 said-shown key [] ms ns le = absurd (omega arith)
-said-shown {sh} {shown} key (s ∷ ss) (perm.both x ms) (perm.both n ns) le = go (eqb (s .key) key) refl le (said-shown key ss ms ns)
+said-shown {sh} {shown} key (s ∷ ss) (perm.both x ms) (perm.both n ns) le =
+    go (eqb (s .key) key) refl le (said-shown key ss ms ns)
   where
     here : Means sh shown s → s .key ≡ key → holds (split sh key) shown ≡ true
     here (means-full e) same = absurd (n e)
@@ -129,275 +137,315 @@ back-again sh (e ∷ es) h =
     let here = h e (or-left _ _ (same-refl e)) in
     (ap₂ _∷_ (here .0) (more .0), and-both _ _ (lt-ltb (join sh e) (keys sh) (here .1)) (more .1))
 
-module _ {m r : ℕ} {start : List ℕ} {w : World} (t : PlainTable m r start) (f : Fair m r start w) (rest : all atRest (w .tasks) ≡ true) where
-  range : InRange (shapeOf m r)
-  range = good-table (shapeOf m r) (length (w .table)) (f .good) .0
+module _ {m r : ℕ} {start : List ℕ} {w : World} (t : PlainTable m r start) (f : Fair m r start w)
+    (rest : all atRest (w .tasks) ≡ true)
+  where
+    range : InRange (shapeOf m r)
+    range = good-table (shapeOf m r) (length (w .table)) (f .good) .0
 
-  low : remainders (shapeOf m r) ≤ 4096
-  low = remainders-high (shapeOf m r) range
+    low : remainders (shapeOf m r) ≤ 4096
+    low = remainders-high (shapeOf m r) range
 
-  free-at : (p : ℕ) → at (wordsOf (w .table)) p .lock ≡ false
-  free-at p = go (at (wordsOf (w .table)) p .lock) refl
-    where
-      go : (b : Bool) → at (wordsOf (w .table)) p .lock ≡ b → b ≡ false
-      go true e =
-          let (i, lt, o) = f .inv .owner p e in absurd (rest-owns (taskAt (w .tasks) i) p (rest-at (w .tasks) i lt rest) o)
-      go false e = refl
-
-  finished-at : (p : ℕ) (i : ℕ) → i < length (w .tasks) → Unfinished (taskAt (w .tasks) i) p → ⊥
-  finished-at p i lt u = go (rest-at (w .tasks) i lt rest)
-    where
-      go : (taskAt (w .tasks) i .phase ≡ 0) ⊎ (taskAt (w .tasks) i .phase ≡ 13) → ⊥
-      go (inl e) = omega (arith, u .from-9)
-      go (inr e) = omega (arith, u .to-10)
-
-  -- the words are those laid
-  words-laid : wordsOf (w .table) ≡ f .laid
-  words-laid =
-      words-path
-      (wordsOf (w .table))
-      (f .laid)
-      (words-size low (f .inv) ∙ sym (f .inv .plain .size))
-      (λ p. sym (unlock-free (at (wordsOf (w .table)) p) (free-at p)) ∙ f .inv .settled p (finished-at p))
-
-  even : length (w .table) ≡ 2 * places (shapeOf m r)
-  even = good-table (shapeOf m r) (length (w .table)) (f .good) .1
-
-  table-laid : w .table ≡ bytesOf (f .laid)
-  table-laid = bytes-are (w .table) (places (shapeOf m r)) (f .laid) even (f .small) words-laid
-
-  pub rest-plain : PlainTable m r (w .table)
-  rest-plain = subst (PlainTable m r) (sym table-laid) (plain-of m r range (f .inv .plain))
-
-  shows : entries (wordsOf (w .table)) ≡ f .shown
-  shows = ap entries words-laid ∙ table-entries (shapeOf m r) low (f .inv .plain .table)
-
-  pub rest-answers : (x : ℕ) → timesSaid x (w .said) ≡ timesGiven x (w .given)
-  rest-answers x = omega (arith, f .answers x, quiet-counts x (w .tasks) rest .1)
-
-  inside-tally :
-      (x : ℕ) →
-      x < keys (shapeOf m r) →
-      bitOf (listed x (listOf m r start)) + timesInserted x (w .said) ≡ bitOf (listed x (listOf m r (w .table)))
-  inside-tally x lt =
-      omega (
-        arith,
-        f .tally x,
-        quiet-counts x (w .tasks) rest .0,
-        ap bitOf (listed-here (t .whole) x lt),
-        ap bitOf (listed-here (rest-plain .whole) x lt ∙ ap (holds (split (shapeOf m r) x)) shows),
-      )
-
-  unlisted : {bytes : List ℕ} (x : ℕ) → SoundTable m r bytes → keys (shapeOf m r) ≤ x → listed x (listOf m r bytes) ≡ false
-  unlisted {bytes} x u le = go (listed x (listOf m r bytes)) refl
-    where
-      go : (b : Bool) → listed x (listOf m r bytes) ≡ b → b ≡ false
-      go true e =
-          absurd
-          (omega (
-            arith,
-            listed-in-keys (shapeOf m r) x (listOf m r bytes) (ascending-keys (shapeOf m r) (ascending-list u)) e,
-          ))
-      go false e = refl
-
-  never-inserted : (x : ℕ) → keys (shapeOf m r) ≤ x → timesInserted x (w .said) ≡ 0
-  never-inserted x le = go (listed x (w .given)) refl
-    where
-      go : (b : Bool) → listed x (w .given) ≡ b → timesInserted x (w .said) ≡ 0
-      go true e = absurd (omega (arith, listed-in-keys (shapeOf m r) x (w .given) (f .in-keys) e))
-      go false e = none (in-order (timesGiven x (w .given)) 0)
-        where
-          none : (timesGiven x (w .given) ≤ 0) ⊎ (0 < timesGiven x (w .given)) → timesInserted x (w .said) ≡ 0
-          none (inl z) = omega (arith, inserted-said x (w .said), rest-answers x)
-          none (inr z) = absurd (true≢false (sym (times-listed x (w .given) (omega arith)) ∙ e))
-
-  -- a key is listed once for each reason: it was there, or it was answered inserted
-  pub rest-tally :
-      (x : ℕ) →
-      bitOf (listed x (listOf m r start)) + timesInserted x (w .said) ≡ bitOf (listed x (listOf m r (w .table)))
-  rest-tally x = go (in-order (keys (shapeOf m r)) x)
-    where
-      go :
-          (keys (shapeOf m r) ≤ x) ⊎ (x < keys (shapeOf m r)) →
-          bitOf (listed x (listOf m r start)) + timesInserted x (w .said) ≡ bitOf (listed x (listOf m r (w .table)))
-      go (inl le) =
-          omega (
-            arith,
-            ap bitOf (unlisted x (t .whole) le),
-            ap bitOf (unlisted x (rest-plain .whole) le),
-            never-inserted x le,
-          )
-      go (inr lt) = inside-tally x lt
-
-  -- ---- with room for all
-  module _ (few : distinct (shapeOf m r) (listOf m r start ++ w .given) ≤ homes (shapeOf m r)) where
-    us : List Entry
-    us = ascend (entriesOf (shapeOf m r) (listOf m r start ++ w .given))
-
-    in-list : InKeys (shapeOf m r) (listOf m r start)
-    in-list = ascending-keys (shapeOf m r) (ascending-list (t .whole))
-
-    among : (x : Entry) → holds x us ≡ (holds x (entries (wordsOf start)) || holds x (entriesOf (shapeOf m r) (w .given)))
-    unfolding us list
-    among x =
-        holds-ascend x (entriesOf (shapeOf m r) (listOf m r start ++ w .given))
-        ∙ ap (holds x) (map-both (shapeOf m r) (listOf m r start) (w .given))
-        ∙ holds-append x (entriesOf (shapeOf m r) (listOf m r start)) (entriesOf (shapeOf m r) (w .given))
-        ∙ ap
-        (λ (fs : List Entry). holds x fs || holds x (entriesOf (shapeOf m r) (w .given)))
-        (split-keys (shapeOf m r) (in-shape (t .whole)))
-
-    space : Spacious m r start (w .given) us
-    unfolding us
-    space =
-        record {
-          room = keys-roomy (shapeOf m r) (listOf m r start ++ w .given) low (all-both (shapeOf m r) (listOf m r start) (w .given) in-list (f .in-keys)) few;
-          starts = λ x h. among x ∙ or-left (holds x (entries (wordsOf start))) _ h;
-          gives = λ x h. among x ∙ or-right (holds x (entries (wordsOf start))) _ h;
-        }
-
-    pub rest-none-full : All (λ (s : Said). s .answer ≢ 3) (w .said)
-    rest-none-full = f .none-full us space .of-said
-
-    -- each given key is shown
-    given-shown : (x : ℕ) → listed x (w .given) ≡ true → holds (split (shapeOf m r) x) (f .shown) ≡ true
-    given-shown x h =
-        said-shown x (w .said) (f .meaning) rest-none-full (omega (arith, rest-answers x, listed-times x (w .given) h))
-
-    pub rest-listed : (x : ℕ) → listed x (w .given) ≡ true → listed x (listOf m r (w .table)) ≡ true
-    rest-listed x h =
-        let lt = listed-in-keys (shapeOf m r) x (w .given) (f .in-keys) h in
-        listed-here (rest-plain .whole) x lt ∙ ap (holds (split (shapeOf m r) x)) shows ∙ given-shown x h
-
-    pub rest-found-or-inserted : All (λ (s : Said). (s .answer ≡ 1) ⊎ (s .answer ≡ 2)) (w .said)
-    rest-found-or-inserted = go (w .said) (f .meaning) rest-none-full
+    free-at : (p : ℕ) → at (wordsOf (w .table)) p .lock ≡ false
+    free-at p = go (at (wordsOf (w .table)) p .lock) refl
       where
-        one : (s : Said) → Means (shapeOf m r) (f .shown) s → s .answer ≢ 3 → (s .answer ≡ 1) ⊎ (s .answer ≡ 2)
-        one s (means-full e) n = absurd (n e)
-        one s (means-shown e h) n = e
+        go : (b : Bool) → at (wordsOf (w .table)) p .lock ≡ b → b ≡ false
+        go true e =
+            let (i, lt, o) =
+            f .inv .owner p e in absurd (rest-owns (taskAt (w .tasks) i) p (rest-at (w .tasks) i lt rest) o)
+        go false e = refl
 
-        go :
-            (ss : List Said) →
-            All (Means (shapeOf m r) (f .shown)) ss →
-            All (λ (s : Said). s .answer ≢ 3) ss → All (λ (s : Said). (s .answer ≡ 1) ⊎ (s .answer ≡ 2)) ss
-        go [] ms ns = perm.none
-        go (s ∷ ss) (perm.both x ms) (perm.both n ns) = perm.both (one s x n) (go ss ms ns)
-
-    -- ---- the bytes
-    -- the keys put, in the order in which they were
-    js : List ℕ
-    js = map (join (shapeOf m r)) (f .put)
-
-    put-inside : (x : Entry) → holds x (f .put) ≡ true → (split (shapeOf m r) (join (shapeOf m r) x) ≡ x) × (join (shapeOf m r) x < keys (shapeOf m r))
-    put-inside x h = held-key (shapeOf m r) (w .given) x low (f .in-keys) (f .put-given x h)
-
-    put-back : (entriesOf (shapeOf m r) js ≡ f .put) × InKeys (shapeOf m r) js
-    unfolding js
-    put-back = back-again (shapeOf m r) (f .put) put-inside
-
-    -- the keys put are those given that were not there at the start
-    new-keys : (x : ℕ) → x < keys (shapeOf m r) → (listed x (w .given) && not (listed x (listOf m r start))) ≡ listed x js
-    new-keys x lt =
-        go (holds e (f .put)) (listed x (w .given)) (listed x (listOf m r start)) refl refl refl
-        ∙ ap (holds e) (sym (put-back .0))
-        ∙ sym (listed-split (shapeOf m r) x js)
+    finished-at : (p : ℕ) (i : ℕ) → i < length (w .tasks) → Unfinished (taskAt (w .tasks) i) p → ⊥
+    finished-at p i lt u = go (rest-at (w .tasks) i lt rest)
       where
-        e : Entry
-        e = split (shapeOf m r) x
+        go : (taskAt (w .tasks) i .phase ≡ 0) ⊎ (taskAt (w .tasks) i .phase ≡ 13) → ⊥
+        go (inl e) = omega (arith, u .from-9)
+        go (inr e) = omega (arith, u .to-10)
 
-        started : listed x (listOf m r start) ≡ holds e (entries (wordsOf start))
-        started = listed-here (t .whole) x lt
+    -- the words are those laid
+    words-laid : wordsOf (w .table) ≡ f .laid
+    words-laid =
+        words-path
+        (wordsOf (w .table))
+        (f .laid)
+        (words-size low (f .inv) ∙ sym (f .inv .plain .size))
+        (λ p. sym (unlock-free (at (wordsOf (w .table)) p) (free-at p)) ∙ f .inv .settled p (finished-at p))
 
-        old : holds e (f .put) ≡ false → listed x (w .given) ≡ true → listed x (listOf m r start) ≡ true
-        old p g = started ∙ or-absent (holds e (entries (wordsOf start))) (holds e (f .put)) p (sym (f .shown-is e) ∙ given-shown x g)
+    even : length (w .table) ≡ 2 * places (shapeOf m r)
+    even = good-table (shapeOf m r) (length (w .table)) (f .good) .1
+
+    table-laid : w .table ≡ bytesOf (f .laid)
+    table-laid = bytes-are (w .table) (places (shapeOf m r)) (f .laid) even (f .small) words-laid
+
+    pub rest-plain : PlainTable m r (w .table)
+    rest-plain = subst (PlainTable m r) (sym table-laid) (plain-of m r range (f .inv .plain))
+
+    shows : entries (wordsOf (w .table)) ≡ f .shown
+    shows = ap entries words-laid ∙ table-entries (shapeOf m r) low (f .inv .plain .table)
+
+    pub rest-answers : (x : ℕ) → timesSaid x (w .said) ≡ timesGiven x (w .given)
+    rest-answers x = omega (arith, f .answers x, quiet-counts x (w .tasks) rest .1)
+
+    inside-tally :
+        (x : ℕ) →
+        x < keys (shapeOf m r) →
+        bitOf (listed x (listOf m r start)) + timesInserted x (w .said) ≡ bitOf (listed x (listOf m r (w .table)))
+    inside-tally x lt =
+        omega (
+          arith,
+          f .tally x,
+          quiet-counts x (w .tasks) rest .0,
+          ap bitOf (listed-here (t .whole) x lt),
+          ap bitOf (listed-here (rest-plain .whole) x lt ∙ ap (holds (split (shapeOf m r) x)) shows),
+        )
+
+    unlisted :
+        {bytes : List ℕ} (x : ℕ) → SoundTable m r bytes → keys (shapeOf m r) ≤ x → listed x (listOf m r bytes) ≡ false
+    unlisted {bytes} x u le = go (listed x (listOf m r bytes)) refl
+      where
+        go : (b : Bool) → listed x (listOf m r bytes) ≡ b → b ≡ false
+        go true e =
+            absurd
+            (omega (
+              arith,
+              listed-in-keys (shapeOf m r) x (listOf m r bytes) (ascending-keys (shapeOf m r) (ascending-list u)) e,
+            ))
+        go false e = refl
+
+    never-inserted : (x : ℕ) → keys (shapeOf m r) ≤ x → timesInserted x (w .said) ≡ 0
+    never-inserted x le = go (listed x (w .given)) refl
+      where
+        go : (b : Bool) → listed x (w .given) ≡ b → timesInserted x (w .said) ≡ 0
+        go true e = absurd (omega (arith, listed-in-keys (shapeOf m r) x (w .given) (f .in-keys) e))
+        go false e = none (in-order (timesGiven x (w .given)) 0)
           where
-            or-absent : (a b : Bool) → b ≡ false → (a || b) ≡ true → a ≡ true
-            or-absent true b n h = refl
-            or-absent false b n h = absurd (true≢false (sym h ∙ n))
+            none : (timesGiven x (w .given) ≤ 0) ⊎ (0 < timesGiven x (w .given)) → timesInserted x (w .said) ≡ 0
+            none (inl z) = omega (arith, inserted-said x (w .said), rest-answers x)
+            none (inr z) = absurd (true≢false (sym (times-listed x (w .given) (omega arith)) ∙ e))
 
-        go :
-            (p g s : Bool) →
-            holds e (f .put) ≡ p →
-            listed x (w .given) ≡ g →
-            listed x (listOf m r start) ≡ s → (listed x (w .given) && not (listed x (listOf m r start))) ≡ holds e (f .put)
-        go true g s k l n =
-            ap₂ (λ (a b : Bool). a && not b) (listed-split (shapeOf m r) x (w .given) ∙ f .put-given e k) (started ∙ f .put-new e k)
-            ∙ sym k
-        go false true s k l n = ap₂ (λ (a b : Bool). a && not b) l (old k l) ∙ sym k
-        go false false s k l n = ap (λ (a : Bool). a && not (listed x (listOf m r start))) l ∙ sym k
-
-    module _ (ks : List ℕ) (h : InKeys (shapeOf m r) ks)
-        (new : (x : ℕ) → x < keys (shapeOf m r) → listed x ks ≡ (listed x (w .given) && not (listed x (listOf m r start))))
+    -- a key is listed once for each reason: it was there, or it was answered inserted
+    pub rest-tally :
+        (x : ℕ) →
+        bitOf (listed x (listOf m r start)) + timesInserted x (w .said) ≡ bitOf (listed x (listOf m r (w .table)))
+    rest-tally x = go (in-order (keys (shapeOf m r)) x)
       where
-        -- the starting keys and the new ones are no more than the starting keys and the given ones
-        new-inside : Inside (ascend (entriesOf (shapeOf m r) (listOf m r start ++ ks))) us
-        unfolding us list
-        new-inside x k = go (held-key (shapeOf m r) (listOf m r start ++ ks) x low (all-both (shapeOf m r) (listOf m r start) ks in-list h) plain)
-          where
-            plain : holds x (entriesOf (shapeOf m r) (listOf m r start ++ ks)) ≡ true
-            plain = sym (holds-ascend x (entriesOf (shapeOf m r) (listOf m r start ++ ks))) ∙ k
-
-            parted : (holds x (entriesOf (shapeOf m r) (listOf m r start)) || holds x (entriesOf (shapeOf m r) ks)) ≡ true
-            parted =
-                sym (holds-append x (entriesOf (shapeOf m r) (listOf m r start)) (entriesOf (shapeOf m r) ks))
-                ∙ ap (holds x) (sym (map-both (shapeOf m r) (listOf m r start) ks))
-                ∙ plain
-
-            go : (split (shapeOf m r) (join (shapeOf m r) x) ≡ x) × (join (shapeOf m r) x < keys (shapeOf m r)) → holds x us ≡ true
-            go (back, lt) = either (holds x (entriesOf (shapeOf m r) (listOf m r start))) refl parted
-              where
-                key : ℕ
-                key = join (shapeOf m r) x
-
-                either :
-                    (b : Bool) →
-                    holds x (entriesOf (shapeOf m r) (listOf m r start)) ≡ b →
-                    (b || holds x (entriesOf (shapeOf m r) ks)) ≡ true → holds x us ≡ true
-                either true y z = space .starts x (ap (holds x) (sym (split-keys (shapeOf m r) (in-shape (t .whole)))) ∙ y)
-                either false y z =
-                    space .gives
-                    x
-                    (ap (λ (e : Entry). holds e (entriesOf (shapeOf m r) (w .given))) (sym back)
-                    ∙ sym (listed-split (shapeOf m r) key (w .given))
-                    ∙ and-left
-                    (listed key (w .given))
-                    _
-                    (sym (new key lt)
-                    ∙ listed-split (shapeOf m r) key ks
-                    ∙ ap (λ (e : Entry). holds e (entriesOf (shapeOf m r) ks)) back
-                    ∙ z))
-
-        new-few : distinct (shapeOf m r) (listOf m r start ++ ks) ≤ homes (shapeOf m r)
-        unfolding distinct us
-        new-few =
+        go :
+            (keys (shapeOf m r) ≤ x) ⊎ (x < keys (shapeOf m r)) →
+            bitOf (listed x (listOf m r start)) + timesInserted x (w .said) ≡ bitOf (listed x (listOf m r (w .table)))
+        go (inl le) =
             omega (
               arith,
-              subset-length
-                  us
-                  low
-                  (space .room .asc)
-                  (ascend (entriesOf (shapeOf m r) (listOf m r start ++ ks)))
-                  4096
-                  (ascend-asc low (all-within (shapeOf m r) (listOf m r start ++ ks) (all-both (shapeOf m r) (listOf m r start) ks in-list h)))
-                  new-inside,
-              few,
+              ap bitOf (unlisted x (t .whole) le),
+              ap bitOf (unlisted x (rest-plain .whole) le),
+              never-inserted x le,
             )
+        go (inr lt) = inside-tally x lt
 
-        pub rest-bytes : putAll m r start ks ≡ w .table
-        rest-bytes =
-            puts-any-order ks js t h (put-back .1) (λ x lt. new x lt ∙ new-keys x lt) new-few
-            ∙ same-bytes
-            (putAll m r start js)
-            (w .table)
-            (places (shapeOf m r))
-            (good-table (shapeOf m r) (length (putAll m r start js)) (done .0 .whole .good) .1)
-            even
-            (done .0 .whole .small)
-            (f .small)
-            (done .1
-            ∙ ap (puts (shapeOf m r) (wordsOf start)) (put-back .0)
-            ∙ sym (f .chain)
-            ∙ sym words-laid)
-          where
-            done : PlainTable m r (putAll m r start js) × (wordsOf (putAll m r start js) ≡ puts (shapeOf m r) (wordsOf start) (entriesOf (shapeOf m r) js))
-            done = put-all-plain js t (put-back .1)
+    -- ---- with room for all
+    module _ (few : distinct (shapeOf m r) (listOf m r start ++ w .given) ≤ homes (shapeOf m r)) where
+      us : List Entry
+      us = ascend (entriesOf (shapeOf m r) (listOf m r start ++ w .given))
+
+      in-list : InKeys (shapeOf m r) (listOf m r start)
+      in-list = ascending-keys (shapeOf m r) (ascending-list (t .whole))
+
+      among :
+          (x : Entry) → holds x us ≡ (holds x (entries (wordsOf start)) || holds x (entriesOf (shapeOf m r) (w .given)))
+      unfolding us list
+      among x =
+          holds-ascend x (entriesOf (shapeOf m r) (listOf m r start ++ w .given))
+          ∙ ap (holds x) (map-both (shapeOf m r) (listOf m r start) (w .given))
+          ∙ holds-append x (entriesOf (shapeOf m r) (listOf m r start)) (entriesOf (shapeOf m r) (w .given))
+          ∙ ap
+          (λ (fs : List Entry). holds x fs || holds x (entriesOf (shapeOf m r) (w .given)))
+          (split-keys (shapeOf m r) (in-shape (t .whole)))
+
+      space : Spacious m r start (w .given) us
+      unfolding us
+      space =
+          record {
+            room =
+                keys-roomy
+                (shapeOf m r)
+                (listOf m r start ++ w .given)
+                low
+                (all-both (shapeOf m r) (listOf m r start) (w .given) in-list (f .in-keys))
+                few;
+            starts = λ x h. among x ∙ or-left (holds x (entries (wordsOf start))) _ h;
+            gives = λ x h. among x ∙ or-right (holds x (entries (wordsOf start))) _ h;
+          }
+
+      pub rest-none-full : All (λ (s : Said). s .answer ≢ 3) (w .said)
+      rest-none-full = f .none-full us space .of-said
+
+      -- each given key is shown
+      given-shown : (x : ℕ) → listed x (w .given) ≡ true → holds (split (shapeOf m r) x) (f .shown) ≡ true
+      given-shown x h =
+          said-shown x (w .said) (f .meaning) rest-none-full (omega (arith, rest-answers x, listed-times x (w .given) h))
+
+      pub rest-listed : (x : ℕ) → listed x (w .given) ≡ true → listed x (listOf m r (w .table)) ≡ true
+      rest-listed x h =
+          let lt = listed-in-keys (shapeOf m r) x (w .given) (f .in-keys) h in
+          listed-here (rest-plain .whole) x lt ∙ ap (holds (split (shapeOf m r) x)) shows ∙ given-shown x h
+
+      pub rest-found-or-inserted : All (λ (s : Said). (s .answer ≡ 1) ⊎ (s .answer ≡ 2)) (w .said)
+      rest-found-or-inserted = go (w .said) (f .meaning) rest-none-full
+        where
+          one : (s : Said) → Means (shapeOf m r) (f .shown) s → s .answer ≢ 3 → (s .answer ≡ 1) ⊎ (s .answer ≡ 2)
+          one s (means-full e) n = absurd (n e)
+          one s (means-shown e h) n = e
+
+          go :
+              (ss : List Said) →
+              All (Means (shapeOf m r) (f .shown)) ss →
+              All (λ (s : Said). s .answer ≢ 3) ss → All (λ (s : Said). (s .answer ≡ 1) ⊎ (s .answer ≡ 2)) ss
+          go [] ms ns = perm.none
+          go (s ∷ ss) (perm.both x ms) (perm.both n ns) = perm.both (one s x n) (go ss ms ns)
+
+      -- ---- the bytes
+      -- the keys put, in the order in which they were
+      js : List ℕ
+      js = map (join (shapeOf m r)) (f .put)
+
+      put-inside :
+          (x : Entry) → holds x (f .put) ≡ true →
+          (split (shapeOf m r) (join (shapeOf m r) x) ≡ x) × (join (shapeOf m r) x < keys (shapeOf m r))
+      put-inside x h = held-key (shapeOf m r) (w .given) x low (f .in-keys) (f .put-given x h)
+
+      put-back : (entriesOf (shapeOf m r) js ≡ f .put) × InKeys (shapeOf m r) js
+      unfolding js
+      put-back = back-again (shapeOf m r) (f .put) put-inside
+
+      -- the keys put are those given that were not there at the start
+      new-keys :
+          (x : ℕ) → x < keys (shapeOf m r) → (listed x (w .given) && not (listed x (listOf m r start))) ≡ listed x js
+      new-keys x lt =
+          go (holds e (f .put)) (listed x (w .given)) (listed x (listOf m r start)) refl refl refl
+          ∙ ap (holds e) (sym (put-back .0))
+          ∙ sym (listed-split (shapeOf m r) x js)
+        where
+          e : Entry
+          e = split (shapeOf m r) x
+
+          started : listed x (listOf m r start) ≡ holds e (entries (wordsOf start))
+          started = listed-here (t .whole) x lt
+
+          old : holds e (f .put) ≡ false → listed x (w .given) ≡ true → listed x (listOf m r start) ≡ true
+          old p g =
+              started
+              ∙ or-absent
+              (holds e (entries (wordsOf start)))
+              (holds e (f .put))
+              p
+              (sym (f .shown-is e) ∙ given-shown x g)
+            where
+              or-absent : (a b : Bool) → b ≡ false → (a || b) ≡ true → a ≡ true
+              or-absent true b n h = refl
+              or-absent false b n h = absurd (true≢false (sym h ∙ n))
+
+          go :
+              (p g s : Bool) →
+              holds e (f .put) ≡ p →
+              listed x (w .given) ≡ g →
+              listed x (listOf m r start) ≡ s → (listed x (w .given) && not (listed x (listOf m r start))) ≡ holds e (f .put)
+          go true g s k l n =
+              ap₂
+              (λ (a b : Bool). a && not b)
+              (listed-split (shapeOf m r) x (w .given) ∙ f .put-given e k)
+              (started ∙ f .put-new e k)
+              ∙ sym k
+          go false true s k l n = ap₂ (λ (a b : Bool). a && not b) l (old k l) ∙ sym k
+          go false false s k l n = ap (λ (a : Bool). a && not (listed x (listOf m r start))) l ∙ sym k
+
+      module _ (ks : List ℕ) (h : InKeys (shapeOf m r) ks)
+          (new : (x : ℕ) → x < keys (shapeOf m r) → listed x ks ≡ (listed x (w .given) && not (listed x (listOf m r start))))
+        where
+          -- the starting keys and the new ones are no more than the starting keys and the given ones
+          new-inside : Inside (ascend (entriesOf (shapeOf m r) (listOf m r start ++ ks))) us
+          unfolding us list
+          new-inside x k =
+              go
+              (held-key
+              (shapeOf m r)
+              (listOf m r start ++ ks)
+              x
+              low
+              (all-both (shapeOf m r) (listOf m r start) ks in-list h)
+              plain)
+            where
+              plain : holds x (entriesOf (shapeOf m r) (listOf m r start ++ ks)) ≡ true
+              plain = sym (holds-ascend x (entriesOf (shapeOf m r) (listOf m r start ++ ks))) ∙ k
+
+              parted :
+                  (holds x (entriesOf (shapeOf m r) (listOf m r start)) || holds x (entriesOf (shapeOf m r) ks)) ≡ true
+              parted =
+                  sym (holds-append x (entriesOf (shapeOf m r) (listOf m r start)) (entriesOf (shapeOf m r) ks))
+                  ∙ ap (holds x) (sym (map-both (shapeOf m r) (listOf m r start) ks))
+                  ∙ plain
+
+              go :
+                  (split (shapeOf m r) (join (shapeOf m r) x) ≡ x) × (join (shapeOf m r) x < keys (shapeOf m r)) →
+                  holds x us ≡ true
+              go (back, lt) = either (holds x (entriesOf (shapeOf m r) (listOf m r start))) refl parted
+                where
+                  key : ℕ
+                  key = join (shapeOf m r) x
+
+                  either :
+                      (b : Bool) →
+                      holds x (entriesOf (shapeOf m r) (listOf m r start)) ≡ b →
+                      (b || holds x (entriesOf (shapeOf m r) ks)) ≡ true → holds x us ≡ true
+                  either true y z =
+                      space .starts x (ap (holds x) (sym (split-keys (shapeOf m r) (in-shape (t .whole)))) ∙ y)
+                  either false y z =
+                      space .gives
+                      x
+                      (ap (λ (e : Entry). holds e (entriesOf (shapeOf m r) (w .given))) (sym back)
+                      ∙ sym (listed-split (shapeOf m r) key (w .given))
+                      ∙ and-left
+                      (listed key (w .given))
+                      _
+                      (sym (new key lt)
+                      ∙ listed-split (shapeOf m r) key ks
+                      ∙ ap (λ (e : Entry). holds e (entriesOf (shapeOf m r) ks)) back
+                      ∙ z))
+
+          new-few : distinct (shapeOf m r) (listOf m r start ++ ks) ≤ homes (shapeOf m r)
+          unfolding distinct us
+          new-few =
+              omega (
+                arith,
+                subset-length
+                    us
+                    low
+                    (space .room .asc)
+                    (ascend (entriesOf (shapeOf m r) (listOf m r start ++ ks)))
+                    4096
+                    (ascend-asc
+                    low
+                    (all-within
+                    (shapeOf m r)
+                    (listOf m r start ++ ks)
+                    (all-both (shapeOf m r) (listOf m r start) ks in-list h)))
+                    new-inside,
+                few,
+              )
+
+          pub rest-bytes : putAll m r start ks ≡ w .table
+          rest-bytes =
+              puts-any-order ks js t h (put-back .1) (λ x lt. new x lt ∙ new-keys x lt) new-few
+              ∙ same-bytes
+              (putAll m r start js)
+              (w .table)
+              (places (shapeOf m r))
+              (good-table (shapeOf m r) (length (putAll m r start js)) (done .0 .whole .good) .1)
+              even
+              (done .0 .whole .small)
+              (f .small)
+              (done .1
+              ∙ ap (puts (shapeOf m r) (wordsOf start)) (put-back .0)
+              ∙ sym (f .chain)
+              ∙ sym words-laid)
+            where
+              done : PlainTable m r (putAll m r start js) × (wordsOf (putAll m r start js) ≡ puts (shapeOf m r) (wordsOf start) (entriesOf (shapeOf m r) js))
+              done = put-all-plain js t (put-back .1)

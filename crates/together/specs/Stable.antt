@@ -1,4 +1,5 @@
--- A step of one task leaves another task's part true: `stage-stable`, from what the step changes (`Frame`) and what it lets alone.
+-- A step of one task leaves another task's part true: `stage-stable`, from what the step changes (`Frame`) and what
+-- it lets alone.
 -- Assumes nothing.
 use Prim.Native.Nat.{ℕ, suc, _+_, _-_, _≤_, _<_}
 use mathlib.Core.Path.{_≡_, refl, sym, ap, _∙_}
@@ -24,12 +25,16 @@ use Rattle.theory.specs.Cut.{end, from, upTo, between-at}
 use Rattle.theory.specs.Motion.{finish}
 use Rattle.theory.specs.Region.{finish-unlock}
 use Rattle.together.specs.Frames.{Within, finish-agree, at-unlocked}
-use Rattle.together.specs.Invariant.{Occupied, LookedLeft, Looked, Fills, FilledEnd, Ready, Moving, Owns, by-left, by-right, Reserves}
-use Rattle.together.specs.Invariant.{Ends, ends-found, ends-full, ends-inserted, RightEnd, right-found, right-full, right-waiting}
-use Rattle.together.specs.Invariant.{right-filled, Stage, at-rest, at-home, looks-left, looks-right, owns-left, owns-both, has-read}
+use Rattle.together.specs.Invariant.{Occupied, LookedLeft, Looked, Fills, FilledEnd, Ready, Moving, Owns}
+use Rattle.together.specs.Invariant.{by-left, by-right, Reserves}
+use Rattle.together.specs.Invariant.{Ends, ends-found, ends-full, ends-inserted, RightEnd, right-found}
+use Rattle.together.specs.Invariant.{right-full, right-waiting}
+use Rattle.together.specs.Invariant.{right-filled, Stage, at-rest, at-home, looks-left, looks-right, owns-left}
+use Rattle.together.specs.Invariant.{owns-both, has-read}
 use Rattle.together.specs.Invariant.{moving, marking, frees-left, frees-right}
 
--- what a step changes: words, locks aside, and words laid only at the places touched; no place is emptied and no entry lost
+-- what a step changes: words, locks aside, and words laid only at the places touched; no place is emptied and no
+-- entry lost
 pub record Frame (sh : Shape) (ws laid : List Word) (shown : List Entry) (ws′ laid′ : List Word) (shown′ : List Entry)
     (Touched : ℕ → Type 0) : Type 0 where
   pub size : length ws ≡ places sh
@@ -78,7 +83,8 @@ pub finish-at :
     (ws : List Word) (hand goal mark home q : ℕ) →
     unlock (at (finish ws hand goal mark home) q) ≡ at (finish (map unlock ws) hand goal mark home) q
 finish-at ws hand goal mark home q =
-    sym (at-unlocked (finish ws hand goal mark home) q) ∙ ap (λ (vs : List Word). at vs q) (finish-unlock ws hand goal mark home)
+    sym (at-unlocked (finish ws hand goal mark home) q)
+    ∙ ap (λ (vs : List Word). at vs q) (finish-unlock ws hand goal mark home)
 
 -- the ends of a stretch and what lies between, in numbers
 pub from-ge : (side : Side) (l : ℕ) → l ≤ from side l
@@ -193,12 +199,15 @@ module _ {sh : Shape} {ws laid : List Word} {shown : List Entry} {ws′ laid′ 
           hand = y .hand;
           goal =
               y .goal
-              ∙ ap (λ (es : List Entry). from (y .side) (u .left) + smaller (split sh (u .key)) es) (sym (entries-stable r x));
+              ∙ ap
+              (λ (es : List Entry). from (y .side) (u .left) + smaller (split sh (u .key)) es)
+              (sym (entries-stable r x));
           mark = y .mark ∙ ap (markOf (split sh (u .key))) (sym (entries-stable r x));
           new = fresh ∙ y .new;
         }
 
-    moving-stable : 9 ≤ u .phase → u .phase ≤ 10 → Looked sh ws u → Moving sh ws laid shown u → Moving sh ws′ laid′ shown′ u
+    moving-stable :
+        9 ≤ u .phase → u .phase ≤ 10 → Looked sh ws u → Moving sh ws laid shown u → Moving sh ws′ laid′ shown′ u
     moving-stable low high x y =
         record {
           side = y .side;
@@ -261,12 +270,21 @@ module _ {sh : Shape} {ws laid : List Word} {shown : List Entry} {ws′ laid′ 
 
     right-stable : u .phase ≡ 12 → RightEnd sh ws shown u → RightEnd sh ws′ shown′ u
     right-stable p (right-found n h x) =
-        right-found n (f .keeps (split sh (u .key)) h) (end-stable (u .right) (by-right (omega arith) (omega arith) refl) x)
+        right-found
+        n
+        (f .keeps (split sh (u .key)) h)
+        (end-stable (u .right) (by-right (omega arith) (omega arith) refl) x)
     right-stable p (right-full n x) = right-full n (end-stable (u .right) (by-right (omega arith) (omega arith) refl) x)
     right-stable p (right-waiting n h x) =
-        right-waiting n (f .keeps (split sh (u .key)) h) (end-stable (u .right) (by-right (omega arith) (omega arith) refl) x)
+        right-waiting
+        n
+        (f .keeps (split sh (u .key)) h)
+        (end-stable (u .right) (by-right (omega arith) (omega arith) refl) x)
     right-stable p (right-filled n h x) =
-        right-filled n (f .keeps (split sh (u .key)) h) (filled-stable (u .right) (by-right (omega arith) (omega arith) refl) x)
+        right-filled
+        n
+        (f .keeps (split sh (u .key)) h)
+        (filled-stable (u .right) (by-right (omega arith) (omega arith) refl) x)
 
     pub stage-stable :
         (u .phase ≡ 8 → holds (split sh (u .key)) shown′ ≡ holds (split sh (u .key)) shown) →

@@ -1,4 +1,5 @@
--- Steps that write between their own ends (phases 8, 9 and 10): what they leave to the other tasks, and the moves and the mark.
+-- Steps that write between their own ends (phases 8, 9 and 10): what they leave to the other tasks, and the moves and
+-- the mark.
 -- Assumes nothing.
 use Prim.Native.Nat.{ℕ, _-_, _≤_, _<_}
 use mathlib.Core.Path.{_≡_, refl, sym, ap, _∙_, subst}

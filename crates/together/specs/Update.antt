@@ -1,4 +1,5 @@
--- One task's step changes the invariant at that task alone: `inv-update`, from the step's own part and what it leaves to the others.
+-- One task's step changes the invariant at that task alone: `inv-update`, from the step's own part and what it leaves
+-- to the others.
 -- Assumes nothing.
 use Prim.Native.Nat.{ℕ, _<_}
 use mathlib.Core.Path.{_≡_, refl, sym, ap, _∙_, subst, subst₂}
@@ -86,9 +87,16 @@ inv-update {sh} {ws} {ts} {laid} {shown} i {t′} {ws′} {laid′} {shown′} l
 
     stage-at : (j : ℕ) → j < length ts → (j ≡ i) ⊎ (j ≢ i) → Stage sh ws′ laid′ shown′ (taskAt (set ts i t′) j)
     stage-at j l (inl e) =
-        subst (λ (k : ℕ). Stage sh ws′ laid′ shown′ (taskAt (set ts i t′) k)) (sym e) (here (Stage sh ws′ laid′ shown′) (s .stage))
+        subst
+        (λ (k : ℕ). Stage sh ws′ laid′ shown′ (taskAt (set ts i t′) k))
+        (sym e)
+        (here (Stage sh ws′ laid′ shown′) (s .stage))
     stage-at j l (inr n) =
-        there (Stage sh ws′ laid′ shown′) j n (s .others (taskAt ts j) (inv .apart i j lt l (λ e. n (sym e))) (inv .stage j l))
+        there
+        (Stage sh ws′ laid′ shown′)
+        j
+        n
+        (s .others (taskAt ts j) (inv .apart i j lt l (λ e. n (sym e))) (inv .stage j l))
 
     beside : (j : ℕ) → j < length ts → j ≢ i → Apart t′ (taskAt ts j)
     beside j l n = s .apart (taskAt ts j) (inv .apart i j lt l (λ e. n (sym e))) (inv .stage j l)
@@ -134,5 +142,7 @@ inv-update {sh} {ws} {ts} {laid} {shown} i {t′} {ws′} {laid′} {shown′} l
                 (i, over i lt, here (λ (t : Task). Owns t p) (x .1 (subst (λ (j : ℕ). Owns (taskAt ts j) p) e (y .2))))
             or-else (inr n) = (y .0, over (y .0) (y .1), there (λ (t : Task). Owns t p) (y .0) n (y .2))
 
-    own : (p : ℕ) → ((j : ℕ) → j < length (set ts i t′) → Unfinished (taskAt (set ts i t′) j) p → ⊥) → Unfinished t′ p → ⊥
+    own :
+        (p : ℕ) → ((j : ℕ) → j < length (set ts i t′) → Unfinished (taskAt (set ts i t′) j) p → ⊥) → Unfinished t′ p →
+        ⊥
     own p none x = none i (over i lt) (here (λ (t : Task). Unfinished t p) x)

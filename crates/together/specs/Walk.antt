@@ -1,5 +1,5 @@
--- One step of a busy task under the invariant: what `Walked` says. Here phases 1 to 6: looking, locking, backing off; and what a step by
--- number is. The fill of an empty home is elsewhere (Commit).
+-- One step of a busy task under the invariant: what `Walked` says. Here phases 1 to 6: looking, locking, backing off;
+-- and what a step by number is. The fill of an empty home is elsewhere (Commit).
 -- Assumes nothing.
 use Prim.Native.Nat.{ℕ, _+_, _-_, _≤_, _<_}
 use mathlib.Core.Path.{_≡_, refl, sym, ap, ap₂, _∙_, subst}
@@ -31,14 +31,17 @@ use Rattle.theory.specs.Cut.{end}
 use Rattle.theory.specs.Places.{occupied-at}
 use Rattle.theory.specs.Building.{after-put}
 use Rattle.together.specs.Frames.{Within}
-use Rattle.together.specs.Invariant.{Occupied, LookedLeft, Looked, Owns, by-left, by-right, Reserves, Apart, Unfinished, Inv}
-use Rattle.together.specs.Invariant.{Moving, Stage, at-rest, at-home, looks-left, looks-right, owns-left, owns-both}
+use Rattle.together.specs.Invariant.{Occupied, LookedLeft, Looked, Owns, by-left, by-right, Reserves, Apart}
+use Rattle.together.specs.Invariant.{Unfinished, Inv}
+use Rattle.together.specs.Invariant.{Moving, Stage, at-rest, at-home, looks-left, looks-right, owns-left}
+use Rattle.together.specs.Invariant.{owns-both}
 use Rattle.together.specs.Invariant.{has-read, moving, marking, frees-left, frees-right}
 use Rattle.together.specs.Update.{Steps, same-or-not}
 use Rattle.together.specs.Facts.{in-order, between-taken, words-size, guards-free, guards-void}
 use Rattle.together.specs.Fitting.{stage-fits}
 use Rattle.together.specs.Stretch.{own-end}
-use Rattle.together.specs.Quiet.{owned-locked, still, relocked, relocked-here, relocked-other, relock, relock-looked}
+use Rattle.together.specs.Quiet.{owned-locked, still, relocked, relocked-here, relocked-other, relock}
+use Rattle.together.specs.Quiet.{relock-looked}
 
 -- 1 for a task that has put its key, from the fill until the next give: phases 9 and 10, and from 11 on with answer 2
 abbrev pub weight : Task → ℕ
@@ -68,7 +71,9 @@ pub record Walked (sh : Shape) (ws : List Word) (ts : List Task) (laid : List Wo
   pub ends : next .phase ≡ 13 → Answered sh shown-after next
   pub begun : 1 ≤ next .phase
   -- an answer full is given only at a full table, for a key that it does not show
-  pub full : next .answer ≡ 3 → (taskAt ts i .answer ≡ 3) ⊎ (AllTaken sh (occupied laid) × (holds (split sh (taskAt ts i .key)) shown ≡ false))
+  pub full :
+      next .answer ≡ 3 →
+      (taskAt ts i .answer ≡ 3) ⊎ (AllTaken sh (occupied laid) × (holds (split sh (taskAt ts i .key)) shown ≡ false))
   pub effect : Effect sh (taskAt ts i) next laid shown laid-after shown-after
 
 -- ---- a step, by its phase's number
@@ -97,7 +102,9 @@ busy-not-rest t a b =
 -- an occupied word is not 0
 occupied-not-void : (w : Word) → w .occupied ≡ true → isVoid w ≡ false
 unfolding isVoid
-occupied-not-void w taken = ap (λ (b : Bool). eqb (w .remainder) 0 && (not b && (not (w .virgin) && not (w .change)))) taken ∙ never (eqb (w .remainder) 0)
+occupied-not-void w taken =
+    ap (λ (b : Bool). eqb (w .remainder) 0 && (not b && (not (w .virgin) && not (w .change)))) taken
+    ∙ never (eqb (w .remainder) 0)
   where
     never : (a : Bool) → (a && false) ≡ false
     never true = refl
@@ -130,7 +137,8 @@ pub record FreeEnd (ws : List Word) (t : Task) : Type 0 where
   pub which : (place ≡ t .left) ⊎ (place ≡ t .right)
   pub free : at ws place .occupied ≡ false
 
-moving-end : {sh : Shape} {ws laid : List Word} {shown : List Entry} {t : Task} → Moving sh ws laid shown t → FreeEnd ws t
+moving-end :
+    {sh : Shape} {ws laid : List Word} {shown : List Entry} {t : Task} → Moving sh ws laid shown t → FreeEnd ws t
 moving-end {ws = ws} {t = t} m = go (m .side) (m .waiting)
   where
     go : (side : Side) → at ws (end (other side) (t .left) (t .right)) ≡ lockWord → FreeEnd ws t
@@ -224,7 +232,9 @@ module _ {sh : Shape} {ws : List Word} {ts : List Task} {laid : List Word} {show
     owns-none p le (by-right a b e) = omega arith
 
     -- a step between phases that own nothing, with no word written
-    free-step : (t′ : Task) → t .phase ≤ 4 → t′ .phase ≤ 4 → Stage sh ws laid shown t′ → Steps sh ws ts laid shown i t′ ws laid shown
+    free-step :
+        (t′ : Task) → t .phase ≤ 4 → t′ .phase ≤ 4 → Stage sh ws laid shown t′ →
+        Steps sh ws ts laid shown i t′ ws laid shown
     free-step t′ a b stage =
         still
         i
@@ -271,7 +281,13 @@ module _ {sh : Shape} {ws : List Word} {ts : List Task} {laid : List Word} {show
           words = ws;
           laid-after = laid;
           shown-after = shown;
-          step = step-by 1 (omega arith) (omega arith) p (rw (open-word, occupied-not-void (at ws (homePlace sh t)) taken, taken));
+          step =
+              step-by
+              1
+              (omega arith)
+              (omega arith)
+              p
+              (rw (open-word, occupied-not-void (at ws (homePlace sh t)) taken, taken));
           shows = free-step next (omega arith) (omega arith) (looks-left refl k near);
           same-key = refl;
           ends = λ e. absurd (omega arith);
@@ -403,7 +419,9 @@ module _ {sh : Shape} {ws : List Word} {ts : List Task} {laid : List Word} {show
               taken = λ q a b. go q a (same-or-not (t .right) q) b;
             }
           where
-            go : (q : ℕ) → split sh (t .key) .home ≤ q → (q ≡ t .right) ⊎ (q ≢ t .right) → q < t .right + 1 → Occupied ws q
+            go :
+                (q : ℕ) → split sh (t .key) .home ≤ q → (q ≡ t .right) ⊎ (q ≢ t .right) → q < t .right + 1 →
+                Occupied ws q
             go q a (inl e) b = subst (Occupied ws) (sym e) taken
             go q a (inr n) b = x .taken q a (omega arith)
 
@@ -418,7 +436,11 @@ module _ {sh : Shape} {ws : List Word} {ts : List Task} {laid : List Word} {show
           shown-after = shown;
           step = step-by 3 (omega arith) (omega arith) p (rw free);
           shows =
-              free-step (toPhase 4 t) (omega arith) (omega arith) (looks-right (omega arith) (omega arith) k (looked-as t (toPhase 4 t) refl refl refl x));
+              free-step
+              (toPhase 4 t)
+              (omega arith)
+              (omega arith)
+              (looks-right (omega arith) (omega arith) k (looked-as t (toPhase 4 t) refl refl refl x));
           same-key = refl;
           ends = λ e. absurd (omega arith);
           begun = omega arith;
@@ -547,7 +569,8 @@ module _ {sh : Shape} {ws : List Word} {ts : List Task} {laid : List Word} {show
         back q (by-left a b e) = by-left (omega arith) (omega arith) e
         back q (by-right a b e) = absurd (omega arith)
 
-    -- the heart of "no two tasks reserve the same words": neither of my ends lies in another's stretch, nor its free end in mine
+    -- the heart of "no two tasks reserve the same words": neither of my ends lies in another's stretch, nor its free
+    -- end in mine
     stretches-apart :
         (u : Task) →
         Apart t u →
@@ -624,7 +647,14 @@ module _ {sh : Shape} {ws : List Word} {ts : List Task} {laid : List Word} {show
               refl
               k
               (looked-as t (toPhase 7 t) refl refl refl (relock-looked t (t .right) true inside x))
-              (relocked-other ws (t .right) true inside (t .left) (λ (e : t .left ≡ t .right). omega (arith, x .leftward .below, x .above)) ∙ held)
+              (relocked-other
+              ws
+              (t .right)
+              true
+              inside
+              (t .left)
+              (λ (e : t .left ≡ t .right). omega (arith, x .leftward .below, x .above))
+              ∙ held)
               (relocked-here ws (t .right) true inside ∙ ap (withLock true) was-zero))
               (λ u a s.
               record {
