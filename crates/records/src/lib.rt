@@ -18,7 +18,7 @@ ghost use Rattle.tasks.specs.Given.{turnSays};
 ghost use Rattle.records.specs.Lent.{giveNone, giveAt, stepNone, stepAt, giveAll, stepAll};
 
 // A record as a call leaves it, beside its answer.
-pub struct After {
+struct After {
     pub task: Task,
     pub done: Done,
 }
