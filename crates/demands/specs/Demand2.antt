@@ -89,6 +89,14 @@ module _ (m r : ℕ) (bytes : List ℕ) (good : goodTable (shapeOf m r) (length 
   build-lists ks h few =
       proof-many.builds m r (good-table (shapeOf m r) (length bytes) good .0) ks h few bytes good
 
+  -- and gives what puts one by one from all zero give
+  pub build-puts :
+      (ks : List ℕ) →
+      InKeys (shapeOf m r) ks →
+      distinct (shapeOf m r) ks ≤ homes (shapeOf m r) →
+      build m r bytes ks ≡ leaves (says 0) (putAll m r (replicate (length bytes) 0) ks)
+  build-puts ks h few = proof-many.build-puts m r bytes ks good h few
+
   -- more are refused, and leave all zero
   pub build-too-many :
       (ks : List ℕ) →

@@ -10,7 +10,7 @@ use lib.Dec.{ltb}
 use borrow.Author.Tests.{ltb-true, ltb-false, lt-ltb, le-ltb}
 use Rattle.rules.specs.declared.Shape.{Shape}
 use Rattle.rules.specs.Lists.{all, any}
-use Rattle.rules.specs.Word.{Word, zeroWord, isVoid}
+use Rattle.rules.specs.Word.{Word, zeroWord, isVoid, numberOf}
 use Rattle.rules.specs.Bytes.{wordsOf, bytesOf}
 use Rattle.rules.specs.Shape.{shapeOf, homes, remainders, keys, places, rightGuard, goodTable}
 use Rattle.rules.specs.Entry.{Entry, split, join}
@@ -21,7 +21,7 @@ use Rattle.rules.specs.Put.{layRun, Outcome, keeps, putIn, wordsAfter, put}
 use Rattle.rules.specs.Build.{zeros, puts, tooMany, buildIn, build}
 use Rattle.words.specs.Range.{InRange, good-table, remainders-high}
 use Rattle.words.specs.Split.{InShape, split-in-shape, split-join, join-below}
-use Rattle.words.specs.Layout.{same-bytes}
+use Rattle.words.specs.Layout.{same-bytes, bytes-are}
 use Rattle.theory.specs.Run.{none}
 use Rattle.theory.specs.Dealt.{and-left, and-right, and-both, or-left, or-right}
 use Rattle.theory.specs.Perm as perm
@@ -449,3 +449,47 @@ puts-order {m} {r} {bytes} ks js t h k alike few =
 
     long : {bs : List ℕ} → PlainTable m r bs → length bs ≡ 2 * places sh
     long {bs} v = good-table sh (length bs) (v .whole .good) .1
+
+-- ---- build is puts from zero bytes
+zero-bytes : (n : ℕ) → bytesOf (replicate n zeroWord) ≡ replicate (2 * n) 0
+unfolding bytesOf numberOf
+zero-bytes zero = refl
+zero-bytes (suc n) = ap (λ (bs : List ℕ). 0 ∷ 0 ∷ bs) (zero-bytes n) ∙ ap (λ (k : ℕ). replicate k 0) far
+  where
+    far : suc (suc (2 * n)) ≡ 2 * suc n
+    far = omega arith
+
+pub build-puts :
+    (m r : ℕ) (bytes ks : List ℕ) →
+    goodTable (shapeOf m r) (length bytes) ≡ true →
+    InKeys (shapeOf m r) ks →
+    distinct (shapeOf m r) ks ≤ homes (shapeOf m r) →
+    build m r bytes ks ≡ leaves (says 0) (putAll m r (replicate (length bytes) 0) ks)
+unfolding zeros places
+build-puts m r bytes ks good h few =
+    build-few m r bytes ks good h few
+    ∙ ap (leaves (says 0)) (sym same ∙ ap (λ (bs : List ℕ). putAll m r bs ks) (zero-bytes (places sh) ∙ ap (λ (n : ℕ). replicate n 0) (sym long)))
+  where
+    sh : Shape
+    sh = shapeOf m r
+
+    range : InRange sh
+    range = good-table sh (length bytes) good .0
+
+    long : length bytes ≡ 2 * places sh
+    long = good-table sh (length bytes) good .1
+
+    done :
+        PlainTable m r (putAll m r (bytesOf (zeros sh)) ks)
+        × (wordsOf (putAll m r (bytesOf (zeros sh)) ks) ≡ puts sh (wordsOf (bytesOf (zeros sh))) (entriesOf sh ks))
+    done = put-all-plain ks (plain-of m r range (zeros-state sh)) h
+
+    same : putAll m r (bytesOf (zeros sh)) ks ≡ bytesOf (puts sh (zeros sh) (entriesOf sh ks))
+    same =
+        bytes-are
+        (putAll m r (bytesOf (zeros sh)) ks)
+        (places sh)
+        (puts sh (zeros sh) (entriesOf sh ks))
+        (good-table sh (length (putAll m r (bytesOf (zeros sh)) ks)) (done .0 .whole .good) .1)
+        (done .0 .whole .small)
+        (done .1 ∙ ap (λ (ws : List Word). puts sh ws (entriesOf sh ks)) (words-back m r range (zeros-state sh)))
