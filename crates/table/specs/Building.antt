@@ -2,13 +2,13 @@
 -- what build answers by whether all of them found room.
 -- Assumes nothing.
 use Prim.Native.Nat.{ℕ, zero, suc, _+_, _*_, _≤_, _<_}
-use mathlib.Core.Path.{_≡_, refl, sym, _∙_, ap}
+use mathlib.Core.Path.{_≡_, refl, sym, _∙_, ap, ap₂}
 use mathlib.Core.Bool.{Bool, true, false, cond}
-use mathlib.Core.List.{List, [], _∷_, map}
+use mathlib.Core.List.{List, [], _∷_, _++_, append-nil, map}
 use native.Mathlib.Numerals.{add-one}
 use native.Mathlib.Omega.{arith}
-use lib.ListN.{length, getD, set, take, drop, replicate, length-set, drop-of-length-le, replicate-append-replicate}
-use lib.Seq.{drop-cons, take-all, take-suc-set}
+use lib.ListN.{length, getD, set, take, drop, replicate, length-set, take-append-drop, drop-of-length-le, replicate-append-replicate}
+use lib.Seq.{drop-cons, take-suc-set, drop-set-lt, drop-drop}
 use lib.Dec.{ltb}
 use borrow.Author.Tests.{ltb-true}
 use Rattle.rules.specs.declared.Shape.{Shape}
@@ -49,25 +49,40 @@ key-good sh (k ∷ ks) zero low e = ltb-true k (keys sh) (and-left (good sh k) _
 key-good sh (k ∷ ks) (suc i) low e = key-good sh ks i (omega arith) (and-right (good sh k) _ e)
 
 -- ---- bytes cleared from the left
-pub record Cleared (bs₀ : List ℕ) (bs : List ℕ) (i : ℕ) : Type 0 where
+pub record Cleared (bs₀ : List ℕ) (n : ℕ) (bs : List ℕ) (i : ℕ) : Type 0 where
   pub size : length bs ≡ length bs₀
-  pub low : i ≤ length bs₀
+  pub low : i ≤ n
   pub front : take i bs ≡ replicate i 0
+  pub back : drop i bs ≡ drop i bs₀
 
-pub clear-more : {bs₀ bs : List ℕ} {i : ℕ} → Cleared bs₀ bs i → i < length bs → Cleared bs₀ (set bs i 0) (i + 1)
-clear-more {bs₀} {bs} {i} c lt =
+pub clear-more :
+    {bs₀ bs : List ℕ} {n i : ℕ} → Cleared bs₀ n bs i → i < n → n ≤ length bs₀ → Cleared bs₀ n (set bs i 0) (i + 1)
+clear-more {bs₀} {bs} {n} {i} c lt within =
     record {
       size = length-set bs i 0 ∙ c .size;
-      low = omega (arith, c .size);
+      low = omega arith;
       front =
-          rw (add-one, take-suc-set bs i 0 lt, c .front)
+          rw (add-one, take-suc-set bs i 0 (omega (arith, c .size)), c .front)
           (replicate-append-replicate i 1 0 ∙ ap (λ (n : ℕ). replicate n 0) (add-one i));
+      back =
+          drop-set-lt (i + 1) bs i 0 (omega arith)
+          ∙ sym (drop-drop 1 i bs)
+          ∙ ap (drop 1) (c .back)
+          ∙ drop-drop 1 i bs₀;
     }
 
-pub clear-all : {bs₀ bs : List ℕ} {i : ℕ} → Cleared bs₀ bs i → length bs ≤ i → bs ≡ replicate (length bs₀) 0
-clear-all {bs₀} {bs} {i} c h =
-    let whole : i ≡ length bs₀ = omega (arith, c .low, c .size) in
-    sym (take-all i bs h) ∙ c .front ∙ ap (λ (n : ℕ). replicate n 0) whole
+pub clear-ends : {bs₀ bs : List ℕ} {n i : ℕ} → Cleared bs₀ n bs i → n ≤ i → bs ≡ replicate n 0 ++ drop n bs₀
+clear-ends {bs₀} {bs} {n} {i} c h =
+    let end : i ≡ n = omega (arith, c .low) in
+    sym (take-append-drop i bs)
+    ∙ ap₂ (λ (f b : List ℕ). f ++ b) (c .front) (c .back)
+    ∙ ap (λ (k : ℕ). replicate k 0 ++ drop k bs₀) end
+
+-- all of them
+pub cleared-whole :
+    (bs cs : List ℕ) (n : ℕ) → n ≡ length bs → cs ≡ replicate n 0 ++ drop n bs → cs ≡ replicate (length bs) 0
+cleared-whole bs cs n whole e =
+    rw (e, drop-of-length-le bs {i = n} (omega arith), append-nil, whole)
 
 -- cleared bytes are the table that is all zero
 words-of-zeros : (n : ℕ) → wordsOf (replicate (2 * n) 0) ≡ replicate n zeroWord

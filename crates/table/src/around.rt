@@ -76,7 +76,8 @@ fn between(sh: Shape, table: &[u8], l: Place, r: Place) -> Around
     ensures { λ a. ⌜ a ≡ betweenOf sh (wordsOf (now (table .entry))) l r ⌝ }
 {
     if sound_between(sh, table, l, r) {
-        if any_locked(table, l, Place(r.0 + 1)) {
+        let end = r.0 + 1;
+        if any_locked(table, l, Place(end)) {
             Around::Refused(Refusal::Locked)
         } else {
             Around::Cluster(l, r)

@@ -9,9 +9,9 @@ use words::shape::good_table;
 use words::shape::shape_of;
 ghost use mathlib.Core.Path.{_≡_};
 ghost use mathlib.Core.Bool.{true};
-ghost use mathlib.Core.List.{map};
-ghost use Prim.Native.Nat.{ℕ, _*_, _<_};
-ghost use lib.ListN.{length, replicate};
+ghost use mathlib.Core.List.{_++_, map};
+ghost use Prim.Native.Nat.{ℕ, _*_, _≤_, _<_};
+ghost use lib.ListN.{length, drop, replicate};
 ghost use lib.Dec.{ltb};
 ghost use Rattle.rules.specs.Lists.{all};
 ghost use Rattle.rules.specs.Bytes.{wordsOf};
@@ -37,11 +37,13 @@ fn good_keys(sh: Shape, keys: &[u32]) -> bool
     true
 }
 
-fn clear(table: &mut [u8])
-    ensures { λ _. ⌜ now (table .exit) ≡ replicate (length (now (table .entry))) 0 ⌝ }
+// The first n bytes.
+fn clear(table: &mut [u8], n: usize)
+    requires { ⌜ n ≤ length (now table) ⌝ }
+    ensures { λ _. ⌜ now (table .exit) ≡ replicate n 0 ++ drop n (now (table .entry)) ⌝ }
 {
     let mut i = 0;
-    while i < table.len() {
+    while i < n {
         table[i] = 0;
         i += 1;
     }
@@ -91,11 +93,12 @@ fn build_in(sh: Shape, table: &mut [u8], keys: &[u32]) -> Done
     ensures { λ a. ⌜ leaves (doneSays a) (now (table .exit))
         ≡ buildIn sh (now (table .entry)) (map (split sh) (now (keys .entry))) ⌝ }
 {
-    clear(table);
+    let n = table.len();
+    clear(table, n);
     if put_all(sh, table, keys) {
         return Done::Accepted;
     } else {
-        clear(table);
+        clear(table, n);
         return Done::Refused(Refusal::Full);
     }
 }

@@ -34,7 +34,8 @@ fn count_occupied(table: &[u8], n: u32) -> u32
     let mut k: u32 = 0;
     let mut i: u32 = 0;
     while i < n {
-        k += bit_of(occupied(word_at(table, Place(i))));
+        let w = word_at(table, Place(i));
+        k += bit_of(occupied(w));
         i += 1;
     }
     k

@@ -26,7 +26,7 @@ ghost use Rattle.rules.specs.Shape.{keys, places};
 ghost use Rattle.rules.specs.Entry.{split};
 ghost use Rattle.rules.specs.Table.{entriesBetween};
 ghost use Rattle.rules.specs.Phase.{aloneWord};
-ghost use Rattle.rules.specs.Answer.{leaves, putSays};
+ghost use Rattle.rules.specs.Answer.{says, leaves, putSays};
 ghost use Rattle.rules.specs.Put.{putIn, put as spec-put};
 ghost use Rattle.words.specs.Range.{InRange};
 ghost use Rattle.words.specs.Split.{InShape};
@@ -37,31 +37,31 @@ ghost use Rattle.table.specs.Around.{Looks};
 ghost use Rattle.table.specs.Putting.{wordsLeft, addBeside, putAmong, Ready};
 
 // An empty home gets the key's one word.
-fn put_alone(table: &mut [u8], home: Place, x: u16)
+fn put_alone(table: &mut [u8], home: Place, x: u16) -> PutAnswer
     requires { ⌜ 2 * home .0 + 1 < length (now table) ⌝ ∗ ⌜ x < 4096 ⌝ }
-    ensures { λ _. ⌜ wordsOf (now (table .exit)) ≡ set (wordsOf (now (table .entry))) (home .0) (aloneWord x) ⌝ }
+    ensures { λ a. ⌜ leaves (putSays a) (wordsOf (now (table .exit)))
+        ≡ leaves (says 2) (set (wordsOf (now (table .entry))) (home .0) (aloneWord x)) ⌝ }
 {
     set_word(table, home, alone_word(x));
+    return PutAnswer::Inserted;
 }
 
 // A key filled in at the hand, brought to its goal and marked there.
-fn bring(table: &mut [u8], hand: Place, goal: Place, mark: u8, home: Place, x: u16)
+fn bring(table: &mut [u8], hand: Place, goal: Place, mark: u8, home: Place, x: u16) -> PutAnswer
     requires { ⌜ 2 * hand .0 + 1 < length (now table) ⌝
         ∗ ⌜ 2 * goal .0 + 1 < length (now table) ⌝
         ∗ ⌜ 2 * home .0 + 1 < length (now table) ⌝
         ∗ ⌜ 0 < goal .0 ⌝
         ∗ ⌜ x < 4096 ⌝ }
-    ensures { λ _. ⌜ wordsOf (now (table .exit))
-        ≡ finish
-        (fillAt x (wordsOf (now (table .entry))) (hand .0))
-        (hand .0)
-        (goal .0)
-        mark
-        (home .0) ⌝ }
+    ensures { λ a. ⌜ leaves (putSays a) (wordsOf (now (table .exit)))
+        ≡ leaves
+        (says 2)
+        (finish (fillAt x (wordsOf (now (table .entry))) (hand .0)) (hand .0) (goal .0) mark (home .0)) ⌝ }
 {
     fill_at(table, hand, x);
     carry(table, hand, goal);
     marks::mark(table, mark, goal, home);
+    PutAnswer::Inserted
 }
 
 // The first empty place to the left is filled; if that is the left guard, the one to the right; if that is a guard
@@ -87,12 +87,12 @@ fn add_beside(
         if r.0 == right_guard(sh).0 {
             return PutAnswer::Refused(Refusal::Full);
         } else {
-            bring(table, r, Place(1 + read.smaller), read.mark, home, x);
-            return PutAnswer::Inserted;
+            let goal = 1 + read.smaller;
+            return bring(table, r, Place(goal), read.mark, home, x);
         }
     } else {
-        bring(table, l, Place(l.0 + read.smaller), read.mark, home, x);
-        return PutAnswer::Inserted;
+        let goal = l.0 + read.smaller;
+        return bring(table, l, Place(goal), read.mark, home, x);
     }
 }
 
@@ -128,8 +128,7 @@ fn put_at(sh: Shape, table: &mut [u8], home: Place, x: u16) -> PutAnswer
             return PutAnswer::Refused(n);
         }
         Around::Empty => {
-            put_alone(table, home, x);
-            return PutAnswer::Inserted;
+            return put_alone(table, home, x);
         }
         Around::Cluster(l, r) => {
             return put_between(sh, table, l, r, home, x);

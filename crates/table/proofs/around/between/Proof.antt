@@ -13,9 +13,9 @@ use Rattle.table.proofs.around.between.Tie as tie
 sound-between-requires : tie.Need-sound-between-requires
 sound-between-requires c κs = search needs
 
-add-t8 : tie.Need-add-t8
+add-end : tie.Need-add-end
 unfolding places
-add-t8 c =
+add-end c =
     let start = c .before .before .before .before in
     omega (arith, homes-high (start .args .sh) (start .pre .0))
 
@@ -49,4 +49,4 @@ returns-3 c = rw (sym (c .before .sound-between .ensures) ∙ c .if1 .left)
 pub between-spec : {M : Type 1} → statement M
 between-spec =
     tie.close
-    (tie.spec sound-between-requires add-t8 any-locked-requires returns returns-2 returns-3)
+    (tie.spec sound-between-requires add-end any-locked-requires returns returns-2 returns-3)

@@ -1,11 +1,11 @@
 -- `build_in` meets its contract: whether all keys found room decides. The bytes are cleared before, and on a refusal.
 -- Assumes nothing.
-use mathlib.Core.Path.{_∙_, ap}
+use mathlib.Core.Path.{refl, sym, _∙_, ap}
 use borrow.Author.Needs.{needs}
 use denote.Ref.{now}
 use lib.ListN.{replicate}
 use Rattle.rules.specs.Answer.{refuses, leaves}
-use Rattle.table.specs.Building.{cleared-zeros, build-done, build-full}
+use Rattle.table.specs.Building.{cleared-whole, cleared-zeros, build-done, build-full}
 use Rattle.table.proofs.build.build_in.Statement.{statement}
 use Rattle.table.proofs.build.build_in.Tie as tie
 
@@ -29,7 +29,8 @@ returns c =
     let sh = start .args .sh in
     let bs = now (start .args .table) in
     let even = start .pre .1 .0 in
-    let zero = cleared-zeros sh bs (cleared .clear .last .0) even (cleared .clear .ensures) in
+    let wiped = cleared-whole bs (cleared .clear .last .0) _ refl (cleared .clear .ensures) in
+    let zero = cleared-zeros sh bs (cleared .clear .last .0) even wiped in
     build-done
     sh
     (start .pre .0)
@@ -56,9 +57,11 @@ returns-2 c =
     let start = cleared .before .before .before .before in
     let sh = start .args .sh in
     let bs = now (start .args .table) in
-    let zero = cleared-zeros sh bs (cleared .clear .last .0) (start .pre .1 .0) (cleared .clear .ensures) in
-    ap (leaves (refuses 8)) (again .clear2 .ensures)
-    ∙ ap (λ n. leaves (refuses 8) (replicate n 0)) (put .put-all .kept .1 .0 ∙ cleared .clear .kept .0)
+    let wiped = cleared-whole bs (cleared .clear .last .0) _ refl (cleared .clear .ensures) in
+    let zero = cleared-zeros sh bs (cleared .clear .last .0) (start .pre .1 .0) wiped in
+    let size = put .put-all .kept .1 .0 ∙ cleared .clear .kept .0 in
+    ap (leaves (refuses 8)) (cleared-whole (put .put-all .last .1 .0) _ _ (sym size) (again .clear2 .ensures))
+    ∙ ap (λ n. leaves (refuses 8) (replicate n 0)) size
     ∙ build-full
     sh
     (start .pre .0)

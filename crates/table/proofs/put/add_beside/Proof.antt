@@ -19,10 +19,10 @@ returns c =
     let start = near .before .before .before in
     rw (added-none (start .pre .1 .1) (near .if1 .taken) (c .if2 .taken ∙ guard .right-guard .ensures))
 
-add-t15 : tie.Need-add-t15
+add-goal : tie.Need-add-goal
 unfolding places
-add-t15 c =
-    let start = c .before .before .before .before .before .before .before .before .before in
+add-goal c =
+    let start = c .before .before .before .before .before .before .before .before in
     omega (arith, reach (start .pre .1 .1), homes-high (start .args .sh) (start .pre .0))
 
 bring-requires : tie.Need-bring-requires
@@ -45,15 +45,13 @@ returns-2 c =
     let near = guard .before in
     let start = near .before .before .before in
     let unlike = far .if2 .left in
-    rw (
-      added-right (start .pre .1 .1) (near .if1 .taken) (λ e. unlike (e ∙ sym (guard .right-guard .ensures))),
-      brought .bring .ensures,
-    )
+    rw (added-right (start .pre .1 .1) (near .if1 .taken) (λ e. unlike (e ∙ sym (guard .right-guard .ensures))))
+    (brought .bring .ensures)
 
-add-t20 : tie.Need-add-t20
+add-goal-2 : tie.Need-add-goal-2
 unfolding places
-add-t20 c =
-    let start = c .before .before .before .before .before .before in
+add-goal-2 c =
+    let start = c .before .before .before .before .before in
     omega (arith, reach (start .pre .1 .1), homes-high (start .args .sh) (start .pre .0))
 
 bring-requires-2 : tie.Need-bring-requires-2
@@ -73,7 +71,7 @@ returns-3 c =
     let brought = c .before .before in
     let far = brought .before .before .before .before in
     let start = far .before .before .before in
-    rw (added-left (start .pre .1 .1) (far .if1 .left), brought .bring2 .ensures)
+    rw (added-left (start .pre .1 .1) (far .if1 .left)) (brought .bring2 .ensures)
 
 pub add-beside-spec : {M : Type 1} → statement M
 add-beside-spec =
@@ -81,11 +79,11 @@ add-beside-spec =
     (tie.spec
     right-guard-requires
     returns
-    add-t15
+    add-goal
     bring-requires
     same-length
     returns-2
-    add-t20
+    add-goal-2
     bring-requires-2
     same-length-2
     returns-3)

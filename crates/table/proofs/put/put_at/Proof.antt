@@ -54,7 +54,7 @@ returns-2 c =
     let start = look .before .before .before in
     let size = words-length (now (start .args .table)) (places (start .args .sh)) (start .pre .1 .0) in
     let a = looks _ _ _ _ (sym (seen .enum-told .given .1) ∙ look .look-around .ensures) in
-    rw (put-by _ (start .pre .0) (start .pre .1 .1) size a, put .put-alone .ensures)
+    rw (put-by _ (start .pre .0) (start .pre .1 .1) size a) (put .put-alone .ensures)
 
 enum-known-around-2 : tie.Need-enum-known-around-2
 enum-known-around-2 c = search needs
