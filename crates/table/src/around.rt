@@ -2,13 +2,13 @@
 // numbers): the home place alone if it is unoccupied, else its cluster and the empty place at each end.
 use cluster::gaps::left_gap;
 use cluster::gaps::right_gap;
+use cluster::guards::guards_void;
 use cluster::run::any_locked;
 use cluster::run::sound_run;
 use rules::Refusal;
 use rules::Shape;
 use words::bytes::word_at;
 use words::place::Place;
-use words::shape::right_guard;
 use words::word::is_void;
 use words::word::lock;
 use words::word::occupied;
@@ -18,7 +18,6 @@ ghost use lib.ListN.{length};
 ghost use Rattle.rules.specs.Word.{wordOf};
 ghost use Rattle.rules.specs.Bytes.{wordsOf};
 ghost use Rattle.rules.specs.Shape.{places};
-ghost use Rattle.rules.specs.Table.{guardsVoid};
 ghost use Rattle.words.specs.Range.{InRange};
 ghost use Rattle.theory.specs.Gaps.{HomePlace};
 ghost use Rattle.table.specs.Around.{soundBetween, aloneOf, betweenOf, aroundOf};
@@ -28,17 +27,6 @@ pub enum Around {
     Refused(Refusal),
     Empty,
     Cluster(Place, Place),
-}
-
-fn guards_void(sh: Shape, table: &[u8]) -> bool
-    requires { ⌜ InRange sh ⌝ ∗ ⌜ length (now table) ≡ 2 * places sh ⌝ }
-    ensures { λ b. ⌜ b ≡ guardsVoid sh (wordsOf (now (table .entry))) ⌝ }
-{
-    if is_void(word_at(table, Place(0))) {
-        is_void(word_at(table, right_guard(sh)))
-    } else {
-        false
-    }
 }
 
 fn alone(w: u16) -> Around
