@@ -27,7 +27,8 @@ returns-2 : tie.Need-returns-2
 returns-2 c = says-packed 1 ∙ ap (λ (a : FindAnswer). packed (findSays a)) (sym (c .enum-told2 .given .1))
 
 returns-3 : tie.Need-returns-3
-returns-3 c = c .refused .ensures ∙ ap (λ (a : FindAnswer). packed (findSays a)) (sym (c .before .before .answer .given .1))
+returns-3 c =
+    c .refused .ensures ∙ ap (λ (a : FindAnswer). packed (findSays a)) (sym (c .before .before .answer .given .1))
 
 pub pack-find-spec : {M : Type 1} → statement M
 pack-find-spec =

@@ -21,7 +21,8 @@ returns : tie.Need-returns
 returns c = says-packed _ ∙ ap (λ (a : ListAnswer). packed (listSays a)) (sym (c .before .answer .given .1))
 
 returns-2 : tie.Need-returns-2
-returns-2 c = c .refused .ensures ∙ ap (λ (a : ListAnswer). packed (listSays a)) (sym (c .before .before .answer2 .given .1))
+returns-2 c =
+    c .refused .ensures ∙ ap (λ (a : ListAnswer). packed (listSays a)) (sym (c .before .before .answer2 .given .1))
 
 pub pack-list-spec : {M : Type 1} → statement M
 pack-list-spec =
