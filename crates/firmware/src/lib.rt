@@ -1,0 +1,34 @@
+// The calls that the camera's firmware makes from C (01, Answers and their numbers): find, put and the fill figure.
+// They require nothing, since nobody checks what C passes; include/woollydusk.h declares them.
+use packed::pack_fill;
+use packed::pack_find;
+use packed::pack_put;
+use table::fill::fill;
+use table::find::find;
+use table::put::put;
+ghost use mathlib.Core.Path.{_≡_};
+ghost use Rattle.rules.specs.Find.{find as spec-find};
+ghost use Rattle.rules.specs.Put.{put as spec-put};
+ghost use Rattle.rules.specs.Fill.{fill as spec-fill};
+ghost use Rattle.packed.specs.Packed.{packed as packed-answer, gives, packedLeaves};
+
+#[no_mangle]
+pub extern "C" fn wd_find(m: u32, r: u32, table: &[u8], key: u32) -> u64
+    ensures { λ x. ⌜ x ≡ packed-answer (spec-find m r (now (table .entry)) key) ⌝ }
+{
+    pack_find(find(m, r, table, key))
+}
+
+#[no_mangle]
+pub extern "C" fn wd_put(m: u32, r: u32, table: &mut [u8], key: u32) -> u64
+    ensures { λ x. ⌜ gives x (now (table .exit)) ≡ packedLeaves (spec-put m r (now (table .entry)) key) ⌝ }
+{
+    pack_put(put(m, r, table, key))
+}
+
+#[no_mangle]
+pub extern "C" fn wd_fill(m: u32, r: u32, table: &[u8]) -> u64
+    ensures { λ x. ⌜ x ≡ packed-answer (spec-fill m r (now (table .entry))) ⌝ }
+{
+    pack_fill(fill(m, r, table))
+}
