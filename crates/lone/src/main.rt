@@ -56,7 +56,7 @@ fn show_answer(t: Task) {
 }
 
 fn show_refusal(n: Refusal) {
-    io::write_all(1, b"step:");
+    io::write_all(1, b"task:");
     print::refused(n);
     print::end_line();
 }

@@ -14,7 +14,7 @@ fn digit(d: u8) -> u8
     }
 }
 
-pub fn byte(b: u8) {
+fn byte(b: u8) {
     let text = [digit(b / 16), digit(b % 16)];
     io::write_all(1, &text);
 }
