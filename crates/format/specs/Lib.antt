@@ -1,0 +1,8 @@
+-- The frame program of document 01, as definitions.
+pub mod Digits
+pub mod Lines
+pub mod Rounds
+pub mod Frame
+pub mod Call
+pub mod Feed
+pub mod Examples
