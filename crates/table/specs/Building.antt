@@ -48,36 +48,6 @@ key-good sh [] i low e = absurd (omega arith)
 key-good sh (k ∷ ks) zero low e = ltb-true k (keys sh) (and-left (good sh k) _ e)
 key-good sh (k ∷ ks) (suc i) low e = key-good sh ks i (omega arith) (and-right (good sh k) _ e)
 
--- ---- bytes cleared from the left
-pub record Cleared (bs₀ : List ℕ) (n : ℕ) (bs : List ℕ) (i : ℕ) : Type 0 where
-  pub size : length bs ≡ length bs₀
-  pub low : i ≤ n
-  pub front : take i bs ≡ replicate i 0
-  pub back : drop i bs ≡ drop i bs₀
-
-pub clear-more :
-    {bs₀ bs : List ℕ} {n i : ℕ} → Cleared bs₀ n bs i → i < n → n ≤ length bs₀ → Cleared bs₀ n (set bs i 0) (i + 1)
-clear-more {bs₀} {bs} {n} {i} c lt within =
-    record {
-      size = length-set bs i 0 ∙ c .size;
-      low = omega arith;
-      front =
-          rw (add-one, take-suc-set bs i 0 (omega (arith, c .size)), c .front)
-          (replicate-append-replicate i 1 0 ∙ ap (λ (n : ℕ). replicate n 0) (add-one i));
-      back =
-          drop-set-lt (i + 1) bs i 0 (omega arith)
-          ∙ sym (drop-drop 1 i bs)
-          ∙ ap (drop 1) (c .back)
-          ∙ drop-drop 1 i bs₀;
-    }
-
-pub clear-ends : {bs₀ bs : List ℕ} {n i : ℕ} → Cleared bs₀ n bs i → n ≤ i → bs ≡ replicate n 0 ++ drop n bs₀
-clear-ends {bs₀} {bs} {n} {i} c h =
-    let end : i ≡ n = omega (arith, c .low) in
-    sym (take-append-drop i bs)
-    ∙ ap₂ (λ (f b : List ℕ). f ++ b) (c .front) (c .back)
-    ∙ ap (λ (k : ℕ). replicate k 0 ++ drop k bs₀) end
-
 -- all of them
 pub cleared-whole :
     (bs cs : List ℕ) (n : ℕ) → n ≡ length bs → cs ≡ replicate n 0 ++ drop n bs → cs ≡ replicate (length bs) 0

@@ -4,14 +4,15 @@ use rules::Done;
 use rules::PutAnswer;
 use rules::Refusal;
 use rules::Shape;
+use words::bytes::clear;
 use words::key::good_key;
 use words::shape::good_table;
 use words::shape::shape_of;
 ghost use mathlib.Core.Path.{_≡_};
 ghost use mathlib.Core.Bool.{true};
-ghost use mathlib.Core.List.{_++_, map};
-ghost use Prim.Native.Nat.{ℕ, _*_, _≤_, _<_};
-ghost use lib.ListN.{length, drop, replicate};
+ghost use mathlib.Core.List.{map};
+ghost use Prim.Native.Nat.{ℕ, _*_, _<_};
+ghost use lib.ListN.{length};
 ghost use lib.Dec.{ltb};
 ghost use Rattle.rules.specs.Lists.{all};
 ghost use Rattle.rules.specs.Bytes.{wordsOf};
@@ -35,18 +36,6 @@ fn good_keys(sh: Shape, keys: &[u32]) -> bool
         }
     }
     true
-}
-
-// The first n bytes.
-fn clear(table: &mut [u8], n: usize)
-    requires { ⌜ n ≤ length (now table) ⌝ }
-    ensures { λ _. ⌜ now (table .exit) ≡ replicate n 0 ++ drop n (now (table .entry)) ⌝ }
-{
-    let mut i = 0;
-    while i < n {
-        table[i] = 0;
-        i += 1;
-    }
 }
 
 // Whether there was room for the key.

@@ -1,8 +1,10 @@
-// The word at a place of the lent bytes, read and written: two bytes a word, low byte first (01, Shape and layout).
+// The word at a place of the lent bytes, read and written: two bytes a word, low byte first (01, Shape and layout);
+// and bytes cleared.
 use crate::place::Place;
 ghost use mathlib.Core.Path.{_≡_};
-ghost use Prim.Native.Nat.{_+_, _*_, _<_};
-ghost use lib.ListN.{length, set};
+ghost use mathlib.Core.List.{_++_};
+ghost use Prim.Native.Nat.{_+_, _*_, _≤_, _<_};
+ghost use lib.ListN.{length, set, drop, replicate};
 ghost use Rattle.rules.specs.Word.{wordOf};
 ghost use Rattle.rules.specs.Bytes.{wordsOf};
 ghost use Rattle.rules.specs.Table.{at};
@@ -37,4 +39,16 @@ pub fn set_word(table: &mut [u8], p: Place, w: u16)
     let i = low_byte(p);
     table[i] = (w % 256) as u8;
     table[i + 1] = (w / 256) as u8;
+}
+
+// The first n bytes become zero.
+pub fn clear(table: &mut [u8], n: usize)
+    requires { ⌜ n ≤ length (now table) ⌝ }
+    ensures { λ _. ⌜ now (table .exit) ≡ replicate n 0 ++ drop n (now (table .entry)) ⌝ }
+{
+    let mut i = 0;
+    while i < n {
+        table[i] = 0;
+        i += 1;
+    }
 }

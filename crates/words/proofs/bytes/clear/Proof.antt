@@ -4,9 +4,9 @@ use Prim.Native.Nat.{_-_}
 use mathlib.Core.Path.{refl}
 use borrow.Author.Needs.{needs}
 use native.Mathlib.Omega.{arith}
-use Rattle.table.specs.Building.{Cleared, clear-more, clear-ends}
-use Rattle.table.proofs.build.clear.Statement.{statement}
-use Rattle.table.proofs.build.clear.Tie as tie
+use Rattle.words.specs.Clear.{Cleared, clear-more, clear-ends}
+use Rattle.words.proofs.bytes.clear.Statement.{statement}
+use Rattle.words.proofs.bytes.clear.Tie as tie
 
 abbrev Inv-loop : tie.InvT-loop
 Inv-loop table₀ n i₀ table i = Cleared table₀ n table i
