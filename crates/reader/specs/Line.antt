@@ -1,15 +1,14 @@
 -- Laws of a line's length. The search for its end: a line feed is met, another byte is passed, the bytes are over
--- (`line-met`, `line-passed`, `line-over`). Its end: inside the bytes (`line-inside`, `end-inside`, `end-below`), before
--- a line feed or not (`end-met`), and the line up to it (`line-is`). Assumes nothing.
-use Prim.Native.Nat.{ℕ, zero, suc, _+_, _≤_, _<_}
+-- (`line-met`, `line-passed`, `line-over`). The end itself: it is inside the bytes (`line-inside`, `end-inside`,
+-- `end-below`), a line feed follows or not (`end-met`), and the line stands before it (`line-is`). Assumes nothing.
+use Prim.Native.Nat.{ℕ, suc, _+_, _-_, _≤_, _<_}
 use mathlib.Core.Path.{_≡_, refl, sym}
 use mathlib.Core.Bool.{Bool, true, false, cond}
 use mathlib.Core.List.{List, [], _∷_}
 use native.Mathlib.Numerals.{add-one}
-use native.Mathlib.Nat.{zero-add, suc-add}
 use native.Mathlib.Omega.{arith}
 use lib.ListN.{length, getD, take, drop, length-drop, drop-of-length-le}
-use lib.Seq.{slice, drop-cons, take-nil}
+use lib.Seq.{drop-cons}
 use lib.Dec.{eqb, ltb}
 use borrow.Author.Tests.{eq-eqb, ne-eqb, lt-ltb, le-ltb, ltb-true, ltb-false}
 use Rattle.format.specs.Feed.{lineLength}
@@ -39,12 +38,6 @@ line-inside (b ∷ xs) = go (eqb b 10) (line-inside xs)
     go true h = omega arith
     go false h = omega arith
 
--- n elements from a place on are a part in the middle
-part-is : (xs : List ℕ) (f n : ℕ) → slice f (f + n) xs ≡ take n (drop f xs)
-part-is xs zero n = rw zero-add
-part-is [] (suc f) n = rw (suc-add, take-nil n)
-part-is (x ∷ xs) (suc f) n = rw suc-add (part-is xs f n)
-
 -- of the line at a place, with its end as a number that the code has
 module _ (xs : List ℕ) (at e : ℕ) (ends : e ≡ at + lineLength (drop at xs)) where
   pub end-inside : at ≤ length xs → e ≤ length xs
@@ -62,6 +55,6 @@ module _ (xs : List ℕ) (at e : ℕ) (ends : e ≡ at + lineLength (drop at xs)
       go true t = sym (lt-ltb e (length xs) (omega (arith, ltb-true _ (length (drop at xs)) t, length-drop at xs)))
       go false t = sym (le-ltb e (length xs) (omega (arith, ltb-false _ (length (drop at xs)) t, length-drop at xs)))
 
-  -- the line's bytes, as a part of the slice
-  pub line-is : slice at e xs ≡ take (lineLength (drop at xs)) (drop at xs)
-  line-is = rw ends (part-is xs at (lineLength (drop at xs)))
+  -- the line's bytes, as the part of the slice up to its end
+  pub line-is : take (e - at) (drop at xs) ≡ take (lineLength (drop at xs)) (drop at xs)
+  line-is = let long : e - at ≡ lineLength (drop at xs) = omega arith in rw long

@@ -11,7 +11,7 @@ pub struct Reader<'a> {
 }
 
 // How many bytes stand before the first line feed from `at` on, or before the end.
-pub fn length_from(src: &[u8], at: usize) -> usize
+fn length_from(src: &[u8], at: usize) -> usize
     ensures { λ n. ⌜ n ≡ lineLength (drop at (now (src .entry))) ⌝ }
 {
     let mut i = at;
@@ -44,7 +44,7 @@ pub fn past_line<'a>(r: Reader<'a>) -> Reader<'a>
     }
 }
 
-// The place where the line at `at` ends.
+// The place where the line at `at` ends; beyond the end of the bytes, `at` itself.
 pub fn next_line(src: &[u8], at: usize) -> usize
     ensures { λ e. ⌜ e ≡ at + lineLength (drop at (now (src .entry))) ⌝ }
 {
