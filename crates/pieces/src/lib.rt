@@ -1,0 +1,2 @@
+// Feeding in pieces: no code, only the theorem that any pieces, fed and finished, write what the crate format says.
+// The statement is in specs/Pieces.antt.
