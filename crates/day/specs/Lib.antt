@@ -1,0 +1,5 @@
+-- What the lines of the frame program inherit from demand 3. The statements are in Day.
+pub mod Terms
+pub mod Counting
+pub mod Beside
+pub mod Moments

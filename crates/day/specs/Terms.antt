@@ -1,0 +1,51 @@
+-- The terms in which Day speaks: a line's keys with their answers, and the run after some lines, its history and what
+-- it has printed.
+-- Assumes nothing.
+use Prim.Native.Nat.{ℕ}
+use mathlib.Core.Bool.{cond}
+use mathlib.Core.List.{List, [], _∷_, _++_}
+use Rattle.rules.specs.Shape.{shapeOf}
+use Rattle.format.specs.Lines.{First, keysOf, goodLine}
+use Rattle.format.specs.Rounds.{Floor, allAnswered, play}
+use Rattle.format.specs.Frame.{Stage, atFirst, among, ended, Day, After, usedPart, lineIn}
+use Rattle.together.specs.Machine.{Said}
+
+-- keys, each with its answer
+unfoldable pub paired : List ℕ → List ℕ → List Said
+paired [] answers = []
+paired (k ∷ ks) [] = []
+paired (k ∷ ks) (a ∷ answers) = record { key = k; answer = a } ∷ paired ks answers
+
+-- what a line of keys adds to the history: its keys with their answers, if the rounds answered them all
+unfoldable pub playedHistory : List ℕ → Floor → List Said
+playedHistory ks p = cond (allAnswered ks p) (paired ks (p .answers)) []
+
+unfoldable pub frameHistory : First → List ℕ → List ℕ → List Said
+frameHistory f table line =
+    cond
+    (goodLine (shapeOf (f .m) (f .r)) line)
+    (playedHistory (keysOf line) (play (f .m) (f .r) (f .tasks) (usedPart f table) (keysOf line)))
+    []
+
+abbrev pub historyAt : Stage → List ℕ → List ℕ → List Said
+historyAt atFirst table line = []
+historyAt (among f) table line = frameHistory f table line
+historyAt ended table line = []
+
+-- what one line adds to the history of a run
+unfoldable pub lineHistory : Day → List ℕ → List Said
+lineHistory d line = historyAt (d .stage) (d .table) line
+
+-- the run after some lines, what it has printed by then, and its history: the accepted keys with their answers, in
+-- order
+unfoldable pub dayAfter : Day → List (List ℕ) → Day
+dayAfter d [] = d
+dayAfter d (line ∷ lines) = dayAfter (lineIn d line .day) lines
+
+unfoldable pub printedBy : Day → List (List ℕ) → List ℕ
+printedBy d [] = []
+printedBy d (line ∷ lines) = lineIn d line .prints ++ printedBy (lineIn d line .day) lines
+
+unfoldable pub history : Day → List (List ℕ) → List Said
+history d [] = []
+history d (line ∷ lines) = lineHistory d line ++ history (lineIn d line .day) lines
