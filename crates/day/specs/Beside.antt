@@ -20,8 +20,8 @@ use Rattle.together.specs.Machine.{Said}
 use Rattle.together.specs.History.{heard}
 use Rattle.together.specs.Update.{task-same, task-other, same-or-not}
 use Rattle.together.specs.Facts.{in-order}
-use Rattle.day.specs.Terms.{paired}
-use Rattle.day.specs.Counting.{count-append, answeredSo, paired-set, paired-start}
+use Rattle.day.specs.Terms.{paired, answeredSo}
+use Rattle.day.specs.Counting.{count-append, paired-set, paired-start}
 
 -- a busy task works on the key whose number it holds, which is taken and not yet answered
 pub record Hand (ks answers : List ℕ) (taken h : ℕ) (t : Task) : Type 0 where

@@ -12,7 +12,7 @@ use Rattle.rules.specs.Lists.{bitOf, count}
 use Rattle.theory.specs.Perm as perm
 use Rattle.theory.specs.Perm.{All}
 use Rattle.together.specs.Machine.{Said}
-use Rattle.day.specs.Terms.{paired}
+use Rattle.day.specs.Terms.{paired, answeredSo}
 
 -- ---- counts and what they say of every element
 module _ {A : Type 0} where
@@ -77,10 +77,6 @@ module _ {A : Type 0} where
       go false k s more = perm.both k (more (omega arith))
 
 -- ---- keys with their answers
--- those that have an answer yet, and pass a test
-abbrev pub answeredSo : (Said → Bool) → Said → Bool
-answeredSo p s = leb 1 (s .answer) && p s
-
 -- one answer stored anew
 pub paired-set :
     (p : Said → Bool) (ks answers : List ℕ) (h a : ℕ) →

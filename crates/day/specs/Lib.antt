@@ -3,3 +3,5 @@ pub mod Terms
 pub mod Counting
 pub mod Beside
 pub mod Moments
+pub mod Line
+pub mod Day

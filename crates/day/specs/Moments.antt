@@ -12,7 +12,7 @@ use lib.Dec.{eqb, leb, ltb}
 use borrow.Author.Tests.{eqb-true, le-leb, leb-true, lt-ltb, ltb-true}
 use Rattle.rules.specs.declared.Shape.{Shape}
 use Rattle.rules.specs.declared.Task.{Task}
-use Rattle.rules.specs.Lists.{all}
+use Rattle.rules.specs.Lists.{count, all}
 use Rattle.rules.specs.Word.{Word}
 use Rattle.rules.specs.Bytes.{wordsOf, bytesOf}
 use Rattle.rules.specs.Shape.{shapeOf, inRange, remainders, keys, goodTable}
@@ -33,6 +33,7 @@ use Rattle.together.specs.Walk.{Walked, Answered, says-full, says-shown}
 use Rattle.together.specs.Course.{walk}
 use Rattle.together.specs.History.{heard, rest-phase}
 use Rattle.together.specs.Fair.{Fair, fair-begin, fair-course}
+use Rattle.day.specs.Terms.{Follows}
 use Rattle.day.specs.Beside.{Beside, beside-start, idle-at, took, beside-take, stepped, beside-step}
 
 -- ---- courses and what they start from
@@ -279,3 +280,16 @@ module _ {m r : ℕ} {bytes : List ℕ} (n : ℕ) (ks : List ℕ) (t : PlainTabl
             (b : Bool) {g : Floor} → Moment m r n bytes ks g → Moment m r n bytes ks (cond b f g)
         go true later = now
         go false later = later
+
+-- what a moment says of its course alone
+pub moment-follows :
+    {m r n : ℕ} {bytes ks : List ℕ} {f : Floor} → Moment m r n bytes ks f → Follows m r n bytes ks f
+moment-follows {m} {r} {n} {bytes} {ks} {f} now =
+    record {
+      actions = now .actions;
+      same-table = ap (λ (w : World). w .table) (now .reached);
+      same-tasks = ap (λ (w : World). w .tasks) (now .reached);
+      as-many = now .beside .as-many;
+      same-keys = λ p. ap (λ (w : World). count p (w .given)) (now .reached) ∙ now .beside .accepts p;
+      same-answers = λ p. ap (λ (w : World). count p (w .said)) (now .reached) ∙ sym (now .beside .says p);
+    }

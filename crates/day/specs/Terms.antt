@@ -2,19 +2,43 @@
 -- it has printed.
 -- Assumes nothing.
 use Prim.Native.Nat.{ℕ}
-use mathlib.Core.Bool.{cond}
+use mathlib.Core.Path.{_≡_}
+use mathlib.Core.Bool.{Bool, cond, _&&_}
 use mathlib.Core.List.{List, [], _∷_, _++_}
+use lib.ListN.{length, take, replicate}
+use lib.Dec.{leb}
+use Rattle.rules.specs.Lists.{count}
 use Rattle.rules.specs.Shape.{shapeOf}
+use Rattle.rules.specs.Give.{noTask}
 use Rattle.format.specs.Lines.{First, keysOf, goodLine}
 use Rattle.format.specs.Rounds.{Floor, allAnswered, play}
 use Rattle.format.specs.Frame.{Stage, atFirst, among, ended, Day, After, usedPart, lineIn}
-use Rattle.together.specs.Machine.{Said}
+use Rattle.together.specs.Machine.{Action, Said, World, begin, course}
 
 -- keys, each with its answer
 unfoldable pub paired : List ℕ → List ℕ → List Said
 paired [] answers = []
 paired (k ∷ ks) [] = []
 paired (k ∷ ks) (a ∷ answers) = record { key = k; answer = a } ∷ paired ks answers
+
+-- those that have an answer by now, and pass a test
+abbrev pub answeredSo : (Said → Bool) → Said → Bool
+answeredSo p s = leb 1 (s .answer) && p s
+
+-- a floor is reached by a course of gives and steps from idle tasks: it has the course's table and tasks; the keys
+-- accepted are those taken, and the answers said are those of the line, each up to its order (as many pass any test)
+pub record Follows (m r n : ℕ) (bytes ks : List ℕ) (f : Floor) : Type 0 where
+  pub actions : List Action
+  pub same-table : course m r (begin bytes (replicate n noTask)) actions .table ≡ f .table
+  pub same-tasks : course m r (begin bytes (replicate n noTask)) actions .tasks ≡ f .tasks
+  pub as-many : length (f .answers) ≡ length ks
+  pub same-keys :
+      (p : ℕ → Bool) →
+      count p (course m r (begin bytes (replicate n noTask)) actions .given) ≡ count p (take (f .taken) ks)
+  pub same-answers :
+      (p : Said → Bool) →
+      count p (course m r (begin bytes (replicate n noTask)) actions .said)
+      ≡ count (answeredSo p) (paired ks (f .answers))
 
 -- what a line of keys adds to the history: its keys with their answers, if the rounds answered them all
 unfoldable pub playedHistory : List ℕ → Floor → List Said
