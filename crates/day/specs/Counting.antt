@@ -12,7 +12,7 @@ use Rattle.rules.specs.Lists.{bitOf, count}
 use Rattle.theory.specs.Perm as perm
 use Rattle.theory.specs.Perm.{All}
 use Rattle.together.specs.Machine.{Said}
-use Rattle.day.specs.Terms.{paired, answeredSo}
+use Rattle.day.specs.Terms.{paired, keysIn, answeredSo}
 
 -- ---- counts and what they say of every element
 module _ {A : Type 0} where
@@ -20,6 +20,12 @@ module _ {A : Type 0} where
   unfolding count
   count-append p [] ys = omega arith
   count-append p (x ∷ xs) ys = omega (arith, count-append p xs ys)
+
+  pub count-map :
+      {B : Type 0} (g : B → A) (p : A → Bool) (xs : List B) → count p (map g xs) ≡ count (λ (x : B). p (g x)) xs
+  unfolding count
+  count-map g p [] = refl
+  count-map g p (x ∷ xs) = ap (λ (n : ℕ). bitOf (p (g x)) + n) (count-map g p xs)
 
   -- a second test that all pass changes no count
   pub count-also :
@@ -98,18 +104,14 @@ paired-start p [] = refl
 paired-start p (k ∷ ks) = omega (arith, paired-start p ks)
 
 -- the keys alone, and the answers alone
-pub paired-keys :
-    (p : ℕ → Bool) (ks answers : List ℕ) →
-    length answers ≡ length ks → count (λ (s : Said). p (s .key)) (paired ks answers) ≡ count p ks
-unfolding paired count
-paired-keys p [] answers size = refl
-paired-keys p (k ∷ ks) [] size = absurd (omega arith)
-paired-keys p (k ∷ ks) (a ∷ answers) size = ap (λ (n : ℕ). bitOf (p k) + n) (paired-keys p ks answers (omega arith))
-
-pub paired-answers :
-    (ks answers : List ℕ) → length answers ≡ length ks → map (λ (s : Said). s .answer) (paired ks answers) ≡ answers
+pub paired-parts :
+    (ks answers : List ℕ) →
+    length answers ≡ length ks →
+    (keysIn (paired ks answers) ≡ ks) × (map (λ (s : Said). s .answer) (paired ks answers) ≡ answers)
 unfolding paired
-paired-answers [] [] size = refl
-paired-answers [] (a ∷ answers) size = absurd (omega arith)
-paired-answers (k ∷ ks) [] size = absurd (omega arith)
-paired-answers (k ∷ ks) (a ∷ answers) size = ap (λ (rest : List ℕ). a ∷ rest) (paired-answers ks answers (omega arith))
+paired-parts [] [] size = (refl, refl)
+paired-parts [] (a ∷ answers) size = absurd (omega arith)
+paired-parts (k ∷ ks) [] size = absurd (omega arith)
+paired-parts (k ∷ ks) (a ∷ answers) size =
+    let rest = paired-parts ks answers (omega arith) in
+    (ap (λ (js : List ℕ). k ∷ js) (rest .0), ap (λ (bs : List ℕ). a ∷ bs) (rest .1))

@@ -1,21 +1,32 @@
 -- A line's rounds are a run in the sense of demand 3, so the answers and the printed table inherit its theorem; for
--- every shape in range, every line and every day. The terms are in Terms; every proof is elsewhere (Moments, Line).
+-- every shape in range, every line and every day. The terms are in Terms; every proof is elsewhere (Moments, Line,
+-- Room, Days, Printing). Of an input, `lines` are its lines: `output input` is `outputFrom dawn (linesOf input)`.
 -- Assumes nothing.
 use Prim.Native.Nat.{ℕ, _≤_}
-use mathlib.Core.Path.{_≡_}
-use mathlib.Core.Bool.{true, _||_}
-use mathlib.Core.List.{List}
-use lib.ListN.{length}
-use Rattle.rules.specs.Shape.{shapeOf}
+use mathlib.Core.Path.{_≡_, sym, ap, _∙_}
+use mathlib.Core.Logic.{_≢_}
+use mathlib.Core.Bool.{Bool, true, false, _||_}
+use mathlib.Core.List.{List, _++_}
+use native.Mathlib.Omega.{arith}
+use lib.Dec.{leb}
+use Rattle.rules.specs.Lists.{bitOf}
+use Rattle.rules.specs.Shape.{shapeOf, homes, keys}
 use Rattle.theory.specs.Perm.{All}
-use Rattle.theory.specs.Keys.{listed}
-use Rattle.demands.specs.Terms.{PlainTable, InKeys, listOf}
-use Rattle.format.specs.Rounds.{Floor, start, allAnswered, rounds, limit, play}
+use Rattle.theory.specs.Keys.{Ascending, listed}
+use Rattle.demands.specs.Terms.{PlainTable, InKeys, listOf, distinct}
+use Rattle.demands.specs.Demand2.{list-ascends}
+use Rattle.format.specs.Digits.{wordDigits}
+use Rattle.format.specs.Lines.{First, inLimits, goodLine}
+use Rattle.format.specs.Rounds.{Floor, start, allAnswered, rounds, play}
+use Rattle.format.specs.Frame.{Stage, among, dawn, usedPart, printed, lineIn, endAt, atEnd, outputFrom}
 use Rattle.together.specs.Machine.{Said, timesInserted}
 use Rattle.together.specs.Demand3.{wasInserted}
-use Rattle.day.specs.Terms.{paired, Follows}
-use Rattle.day.specs.Moments.{moment-start, rounds-moment, moment-follows}
+use Rattle.day.specs.Terms.{paired, keysIn, Follows, dayAfter, history, lineHistory, printedBy, shownAnswers}
+use Rattle.day.specs.Moments.{rounds-follow, play-follows}
 use Rattle.day.specs.Line as line
+use Rattle.day.specs.Room as room
+use Rattle.day.specs.Days.{day-kept}
+use Rattle.day.specs.Printing.{output-parts, day-prints}
 
 -- ---- one line: a sound unlocked table, at most 16 tasks, keys in range
 module _ {m r : ℕ} {bytes : List ℕ} (t : PlainTable m r bytes) (n : ℕ) (few : n ≤ 16) (ks : List ℕ)
@@ -23,7 +34,7 @@ module _ {m r : ℕ} {bytes : List ℕ} (t : PlainTable m r bytes) (n : ℕ) (fe
   where
     -- after any number of rounds the line's floor is reached by a course of gives and steps
     pub line-is-course : (k : ℕ) → Follows m r n bytes ks (rounds m r ks k (start bytes n ks))
-    line-is-course k = moment-follows (rounds-moment n ks t few h k (moment-start n ks t few h))
+    line-is-course = rounds-follow n ks t few h
 
     -- what the line comes to, and its keys with their answers
     abbrev pub end : Floor
@@ -33,8 +44,7 @@ module _ {m r : ℕ} {bytes : List ℕ} (t : PlainTable m r bytes) (n : ℕ) (fe
     answers = paired ks (end .answers)
 
     course-of-line : Follows m r n bytes ks end
-    unfolding play
-    course-of-line = line-is-course (limit m r (length ks))
+    course-of-line = play-follows n ks t few h
 
     -- if all its keys are answered,
     module _ (complete : allAnswered ks end ≡ true) where
@@ -58,3 +68,73 @@ module _ {m r : ℕ} {bytes : List ℕ} (t : PlainTable m r bytes) (n : ℕ) (fe
       -- and none that was there before
       pub line-new : (x : ℕ) → listed x (listOf m r bytes) ≡ true → timesInserted x answers ≡ 0
       line-new = line.line-new t n few course-of-line complete
+
+      -- and if the keys from before and the line's are no more distinct keys than places without guards, none is full
+      pub line-none-full :
+          distinct (shapeOf m r) (listOf m r bytes ++ ks) ≤ homes (shapeOf m r) →
+          All (λ (s : Said). s .answer ≢ 3) answers
+      line-none-full = room.line-none-full t n few course-of-line complete h
+
+-- ---- a whole day from the zero table: as long as the run has a good first line and has not ended,
+module _ (lines : List (List ℕ)) (f : First) (on : dayAfter dawn lines .stage ≡ among f) where
+  -- the table, and the accepted keys with their answers, in order
+  abbrev pub table : List ℕ
+  table = usedPart f (dayAfter dawn lines .table)
+
+  abbrev pub past : List Said
+  past = history dawn lines
+
+  -- the first line is in its limits,
+  pub day-limits : inLimits f ≡ true
+  day-limits = day-kept lines f on .limits
+
+  -- the table is sound and without locks,
+  pub day-table : PlainTable (f .m) (f .r) table
+  day-table = day-kept lines f on .plain
+
+  -- its list ascends strictly, so that it has no key twice,
+  pub day-ascends : Ascending (keys (shapeOf (f .m) (f .r))) 0 (listOf (f .m) (f .r) table)
+  day-ascends = list-ascends (day-table .whole)
+
+  -- it lists exactly the keys answered inserted,
+  pub day-lists : (x : ℕ) → listed x (listOf (f .m) (f .r) table) ≡ wasInserted x past
+  unfolding wasInserted
+  day-lists x = go (listed x (listOf (f .m) (f .r) table)) (day-kept lines f on .tally x)
+    where
+      go : (b : Bool) → timesInserted x past ≡ bitOf b → b ≡ leb 1 (timesInserted x past)
+      go true e = sym (ap (leb 1) e)
+      go false e = sym (ap (leb 1) e)
+
+  -- each so answered once,
+  pub day-once : (x : ℕ) → timesInserted x past ≤ 1
+  day-once x = go (listed x (listOf (f .m) (f .r) table)) (day-kept lines f on .tally x)
+    where
+      go : (b : Bool) → timesInserted x past ≡ bitOf b → timesInserted x past ≤ 1
+      go true e = omega arith
+      go false e = omega arith
+
+  -- and every answer is found, inserted or full; 4 is never given
+  pub day-answers : All (λ (s : Said). (1 ≤ s .answer) × (s .answer ≤ 3)) past
+  day-answers = day-kept lines f on .known
+
+  -- if the accepted keys are no more distinct keys than places without guards, none is answered full
+  pub day-none-full :
+      distinct (shapeOf (f .m) (f .r)) (keysIn past) ≤ homes (shapeOf (f .m) (f .r)) →
+      All (λ (s : Said). s .answer ≢ 3) past
+  day-none-full fits =
+      day-kept lines f on .none-full (keysIn past) (day-kept lines f on .in-keys) fits (λ x there. there)
+
+  -- the next line, if it is one of keys and does not end the run, prints its keys' answers,
+  pub day-line-prints :
+      (line : List ℕ) →
+      goodLine (shapeOf (f .m) (f .r)) line ≡ true →
+      lineIn (dayAfter dawn lines) line .day .stage ≡ among f →
+      lineIn (dayAfter dawn lines) line .prints ≡ shownAnswers (lineHistory (dayAfter dawn lines) line)
+  day-line-prints line good still = day-prints lines f line on good still
+
+  -- and if there is no next line, what is printed last is the digits of that table
+  pub day-output : outputFrom dawn lines ≡ printedBy dawn lines ++ printed (wordDigits table)
+  unfolding atEnd
+  day-output =
+      output-parts dawn lines
+      ∙ ap (λ (s : Stage). printedBy dawn lines ++ endAt s (dayAfter dawn lines .table)) on

@@ -4,4 +4,8 @@ pub mod Counting
 pub mod Beside
 pub mod Moments
 pub mod Line
+pub mod Room
+pub mod Zero
+pub mod Days
+pub mod Printing
 pub mod Day

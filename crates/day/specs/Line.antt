@@ -26,15 +26,16 @@ use Rattle.together.specs.Machine.{Action, Said, World, begin, course, quiet, t
 use Rattle.together.specs.Demand3 as demand-3
 use Rattle.together.specs.Demand3.{wasInserted}
 use Rattle.day.specs.Terms.{paired, answeredSo, Follows}
-use Rattle.day.specs.Counting.{count-also, count-same, count-none, none-counted, paired-keys}
+use Rattle.day.specs.Counting.{count-also, count-same, count-none, none-counted}
+use Rattle.day.specs.Counting.{count-map, paired-parts}
 use Rattle.day.specs.Moments.{idle-tasks}
 
 -- ---- lists that have as many of every kind
-abbrev Alike : {A : Type 0} → List A → List A → Type 0
+abbrev pub Alike : {A : Type 0} → List A → List A → Type 0
 Alike {A} xs ys = (p : A → Bool) → count p xs ≡ count p ys
 
 -- what holds of all of one, and can be tested, holds of all of the other
-all-alike :
+pub all-alike :
     {A : Type 0} {P : A → Type 0} (fails : A → Bool) {xs ys : List A} →
     ((x : A) → P x → fails x ≡ false) → ((x : A) → fails x ≡ false → P x) → Alike xs ys → All P xs → All P ys
 all-alike fails {xs} {ys} tested holds same h =
@@ -73,13 +74,13 @@ module _ {m r : ℕ} {bytes : List ℕ} (t : PlainTable m r bytes) (n : ℕ) (fe
     abbrev tasks : List Task
     tasks = replicate n noTask
 
-    no-more : length tasks ≤ 16
+    pub no-more : length tasks ≤ 16
     no-more = omega (arith, length-replicate n noTask)
 
-    abbrev after : World
+    abbrev pub after : World
     after = course m r (begin bytes tasks) (run .actions)
 
-    done : quiet (after .tasks) ≡ true
+    pub done : quiet (after .tasks) ≡ true
     unfolding quiet allAnswered
     done = ap (all atRest) (run .same-tasks) ∙ and-right (eqb (f .taken) (length ks)) _ complete
 
@@ -99,7 +100,9 @@ module _ {m r : ℕ} {bytes : List ℕ} (t : PlainTable m r bytes) (n : ℕ) (fe
     has-answer : All (λ (s : Said). leb 1 (s .answer) ≡ true) answers
     unfolding timesSaid
     has-answer =
-        every-key answers (λ x. count-same (λ (s : Said). leb 1 (s .answer)) (λ (s : Said). eqb (s .key) x) answers (each x))
+        every-key
+        answers
+        (λ x. count-same (λ (s : Said). leb 1 (s .answer)) (λ (s : Said). eqb (s .key) x) answers (each x))
       where
         each :
             (x : ℕ) →
@@ -109,7 +112,9 @@ module _ {m r : ℕ} {bytes : List ℕ} (t : PlainTable m r bytes) (n : ℕ) (fe
             ∙ demand-3.answered t tasks no-more (idle-tasks n) (run .actions) done x
             ∙ times-given x (after .given)
             ∙ keys-alike (λ (k : ℕ). eqb k x)
-            ∙ sym (paired-keys (λ (k : ℕ). eqb k x) ks (f .answers) (run .as-many))
+            ∙ sym
+            (ap (count (λ (k : ℕ). eqb k x)) (paired-parts ks (f .answers) (run .as-many) .0))
+            ∙ count-map (λ (s : Said). s .key) (λ (k : ℕ). eqb k x) answers
 
     pub answers-alike : (p : Said → Bool) → count p (after .said) ≡ count p answers
     answers-alike p = run .same-answers p ∙ count-also (λ (s : Said). leb 1 (s .answer)) p has-answer

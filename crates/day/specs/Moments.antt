@@ -24,7 +24,7 @@ use Rattle.words.specs.Range.{good-table, remainders-high, range-in}
 use Rattle.theory.specs.Dealt.{and-left, and-right, and-both}
 use Rattle.demands.specs.Terms.{PlainTable, InKeys}
 use Rattle.format.specs.Rounds as rounds-of
-use Rattle.format.specs.Rounds.{Floor, start, afterTake, turn, turns, round, rounds, allAnswered}
+use Rattle.format.specs.Rounds.{Floor, start, afterTake, turn, turns, round, rounds, allAnswered, limit, play}
 use Rattle.together.specs.Machine.{Action, gives, steps, Said, World, begin, afterGive, afterStep, act, course}
 use Rattle.together.specs.Machine.{quiet}
 use Rattle.together.specs.Update.{task-same}
@@ -60,6 +60,19 @@ pub record Moment (m r n : ℕ) (bytes ks : List ℕ) (f : Floor) : Type 0 where
   pub reached : course m r (begin bytes (replicate n noTask)) actions ≡ world f accepted said
   pub crew : length (f .tasks) ≡ n
   pub beside : Beside ks f accepted said
+
+-- what a moment says of its course alone
+pub moment-follows :
+    {m r n : ℕ} {bytes ks : List ℕ} {f : Floor} → Moment m r n bytes ks f → Follows m r n bytes ks f
+moment-follows {m} {r} {n} {bytes} {ks} {f} now =
+    record {
+      actions = now .actions;
+      same-table = ap (λ (w : World). w .table) (now .reached);
+      same-tasks = ap (λ (w : World). w .tasks) (now .reached);
+      as-many = now .beside .as-many;
+      same-keys = λ p. ap (λ (w : World). count p (w .given)) (now .reached) ∙ now .beside .accepts p;
+      same-answers = λ p. ap (λ (w : World). count p (w .said)) (now .reached) ∙ sym (now .beside .says p);
+    }
 
 -- ---- one task's give and step
 rest-not-busy : (t : Task) → atRest t ≡ true → busy t ≡ false
@@ -281,15 +294,10 @@ module _ {m r : ℕ} {bytes : List ℕ} (n : ℕ) (ks : List ℕ) (t : PlainTabl
         go true later = now
         go false later = later
 
--- what a moment says of its course alone
-pub moment-follows :
-    {m r n : ℕ} {bytes ks : List ℕ} {f : Floor} → Moment m r n bytes ks f → Follows m r n bytes ks f
-moment-follows {m} {r} {n} {bytes} {ks} {f} now =
-    record {
-      actions = now .actions;
-      same-table = ap (λ (w : World). w .table) (now .reached);
-      same-tasks = ap (λ (w : World). w .tasks) (now .reached);
-      as-many = now .beside .as-many;
-      same-keys = λ p. ap (λ (w : World). count p (w .given)) (now .reached) ∙ now .beside .accepts p;
-      same-answers = λ p. ap (λ (w : World). count p (w .said)) (now .reached) ∙ sym (now .beside .says p);
-    }
+    -- ---- the line
+    pub rounds-follow : (k : ℕ) → Follows m r n bytes ks (rounds m r ks k (start bytes n ks))
+    rounds-follow k = moment-follows (rounds-moment k moment-start)
+
+    pub play-follows : Follows m r n bytes ks (play m r n bytes ks)
+    unfolding play
+    play-follows = rounds-follow (limit m r (length ks))

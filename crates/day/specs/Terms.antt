@@ -4,15 +4,16 @@
 use Prim.Native.Nat.{ℕ}
 use mathlib.Core.Path.{_≡_}
 use mathlib.Core.Bool.{Bool, cond, _&&_}
-use mathlib.Core.List.{List, [], _∷_, _++_}
+use mathlib.Core.List.{List, [], _∷_, _++_, map}
 use lib.ListN.{length, take, replicate}
 use lib.Dec.{leb}
 use Rattle.rules.specs.Lists.{count}
 use Rattle.rules.specs.Shape.{shapeOf}
 use Rattle.rules.specs.Give.{noTask}
+use Rattle.format.specs.Digits.{digitsOf}
 use Rattle.format.specs.Lines.{First, keysOf, goodLine}
 use Rattle.format.specs.Rounds.{Floor, allAnswered, play}
-use Rattle.format.specs.Frame.{Stage, atFirst, among, ended, Day, After, usedPart, lineIn}
+use Rattle.format.specs.Frame.{Stage, atFirst, among, ended, Day, After, usedPart, lineIn, printed}
 use Rattle.together.specs.Machine.{Action, Said, World, begin, course}
 
 -- keys, each with its answer
@@ -20,6 +21,10 @@ unfoldable pub paired : List ℕ → List ℕ → List Said
 paired [] answers = []
 paired (k ∷ ks) [] = []
 paired (k ∷ ks) (a ∷ answers) = record { key = k; answer = a } ∷ paired ks answers
+
+-- the keys alone
+abbrev pub keysIn : List Said → List ℕ
+keysIn past = map (λ (s : Said). s .key) past
 
 -- those that have an answer by now, and pass a test
 abbrev pub answeredSo : (Said → Bool) → Said → Bool
@@ -73,3 +78,7 @@ printedBy d (line ∷ lines) = lineIn d line .prints ++ printedBy (lineIn d line
 unfoldable pub history : Day → List (List ℕ) → List Said
 history d [] = []
 history d (line ∷ lines) = lineHistory d line ++ history (lineIn d line .day) lines
+
+-- the answers of a history as a line of keys prints them
+abbrev pub shownAnswers : List Said → List ℕ
+shownAnswers past = printed (digitsOf (map (λ (s : Said). s .answer) past))
