@@ -1,16 +1,16 @@
 -- What ties a line's floor to the history of a run: `Beside`. It holds at the start (`beside-start`), and a key taken
 -- (`beside-take`) and a step made (`beside-step`) keep it.
 -- Assumes nothing.
-use Prim.Native.Nat.{ℕ, zero, suc, _+_, _≤_, _<_}
-use mathlib.Core.Path.{_≡_, refl, sym, ap, _∙_, subst}
+use Prim.Native.Nat.{ℕ, suc, _≤_, _<_}
+use mathlib.Core.Path.{_≡_, refl, sym, ap, _∙_}
 use mathlib.Core.Logic.{_⊎_, _≢_, inl, inr}
 use mathlib.Core.Bool.{Bool, true, false, cond, _&&_, _||_, true≢false}
-use mathlib.Core.List.{List, [], _∷_, _++_}
+use mathlib.Core.List.{List, [], _∷_}
 use native.Mathlib.Omega.{arith}
 use lib.ListN.{length, getD, take, set, replicate, length-set, length-replicate, getD-replicate, List·getD-eq-default}
 use lib.Seq.{take-suc, getD-set-same, getD-set-other}
-use lib.Dec.{eqb, leb}
-use borrow.Author.Tests.{eqb-true, eq-eqb, le-leb}
+use lib.Dec.{eqb}
+use borrow.Author.Tests.{eqb-true, le-leb}
 use Rattle.rules.specs.declared.Task.{Task}
 use Rattle.rules.specs.Lists.{bitOf, count}
 use Rattle.rules.specs.Record.{atRest}
@@ -36,7 +36,8 @@ pub record Beside (ks : List ℕ) (f : Floor) (accepted : List ℕ) (said : List
   pub hand :
       (i : ℕ) →
       i < length (f .tasks) →
-      atRest (taskAt (f .tasks) i) ≡ false → Hand ks (f .answers) (f .taken) (getD (f .holds) i 0) (taskAt (f .tasks) i)
+      atRest (taskAt (f .tasks) i) ≡ false →
+      Hand ks (f .answers) (f .taken) (getD (f .holds) i 0) (taskAt (f .tasks) i)
   -- no two busy tasks hold one number
   pub apart :
       (i j : ℕ) →
@@ -59,7 +60,7 @@ replicate-zero n j = go (in-order n j)
     go (inl le) = List·getD-eq-default (replicate n 0) 0 {n = j} (omega (arith, length-replicate {A = ℕ} n 0))
     go (inr lt) = getD-replicate n j 0 0 lt
 
-pub idle-at : (n i : ℕ) → i < n → atRest (taskAt (replicate n noTask) i) ≡ true
+idle-at : (n i : ℕ) → i < n → atRest (taskAt (replicate n noTask) i) ≡ true
 unfolding atRest
 idle-at n i lt = ap (λ (t : Task). eqb (t .phase) 0 || eqb (t .phase) 13) (getD-replicate n i noTask noTask lt)
 
@@ -295,13 +296,13 @@ module _ {ks : List ℕ} {f : Floor} {accepted : List ℕ} {said : List Said} (b
       hand-done j l busy (inr n) =
           let before = was-busy j busy (inr n) in
           let h = b .hand j l before in
+          let other = b .apart j i l lt n before works in
           rw (task-other (f .tasks) i j t n)
           (record {
             low = h .low;
             its-key = h .its-key;
             unanswered =
-                getD-set-other (f .answers) number (getD (f .holds) j 0) (t .answer) 0 (b .apart j i l lt n before works)
-                ∙ h .unanswered;
+                getD-set-other (f .answers) number (getD (f .holds) j 0) (t .answer) 0 other ∙ h .unanswered;
           })
 
       says-done :

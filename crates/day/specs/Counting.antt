@@ -3,16 +3,25 @@
 -- Assumes nothing.
 use Prim.Native.Nat.{ℕ, zero, suc, _+_, _≤_, _<_}
 use mathlib.Core.Path.{_≡_, refl, sym, ap, ap₂, _∙_}
-use mathlib.Core.Bool.{Bool, true, false, _&&_, true≢false, false≢true}
+use mathlib.Core.Bool.{Bool, true, false, _&&_, true≢false}
 use mathlib.Core.List.{List, [], _∷_, _++_, map}
 use native.Mathlib.Omega.{arith}
 use lib.ListN.{length, getD, set, replicate}
-use lib.Dec.{eqb, leb}
+use lib.Dec.{eqb}
+use borrow.Author.Tests.{eqb-true, eqb-false, eq-eqb, ne-eqb}
 use Rattle.rules.specs.Lists.{bitOf, count}
 use Rattle.theory.specs.Perm as perm
 use Rattle.theory.specs.Perm.{All}
 use Rattle.together.specs.Machine.{Said}
 use Rattle.day.specs.Terms.{paired, keysIn, answeredSo}
+
+-- ---- a test of two numbers either way
+pub eqb-sym : (a b : ℕ) → eqb a b ≡ eqb b a
+eqb-sym a b = go (eqb b a) refl
+  where
+    go : (c : Bool) → eqb b a ≡ c → eqb a b ≡ c
+    go true e = eq-eqb a b (sym (eqb-true b a e))
+    go false e = ne-eqb a b (λ same. eqb-false b a e (sym same))
 
 -- ---- counts and what they say of every element
 module _ {A : Type 0} where
@@ -94,7 +103,9 @@ unfolding paired count
 paired-set p [] answers h a lt l = absurd (omega arith)
 paired-set p (k ∷ ks) [] h a lt l = absurd (omega arith)
 paired-set p (k ∷ ks) (b ∷ answers) zero a lt l = omega arith
-paired-set p (k ∷ ks) (b ∷ answers) (suc h) a lt l = omega (arith, paired-set p ks answers h a (omega arith) (omega arith))
+paired-set p (k ∷ ks) (b ∷ answers) (suc h) a lt l =
+    let more = paired-set p ks answers h a (omega arith) (omega arith) in
+    omega (arith, more)
 
 -- no answers yet
 pub paired-start :

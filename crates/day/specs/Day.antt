@@ -1,6 +1,6 @@
 -- A line's rounds are a run in the sense of demand 3, so the answers and the printed table inherit its theorem; for
 -- every shape in range, every line and every day. The terms are in Terms; every proof is elsewhere (Moments, Line,
--- Room, Days, Printing). Of an input, `lines` are its lines: `output input` is `outputFrom dawn (linesOf input)`.
+-- Room, Kept, Days, Printing). `output` of an input is `outputFrom dawn` of its lines, `linesOf input`.
 -- Assumes nothing.
 use Prim.Native.Nat.{ℕ, _≤_}
 use mathlib.Core.Path.{_≡_, sym, ap, _∙_}
@@ -8,12 +8,15 @@ use mathlib.Core.Logic.{_≢_}
 use mathlib.Core.Bool.{Bool, true, false, _||_}
 use mathlib.Core.List.{List, _++_}
 use native.Mathlib.Omega.{arith}
+use lib.ListN.{length}
 use lib.Dec.{leb}
 use Rattle.rules.specs.Lists.{bitOf}
-use Rattle.rules.specs.Shape.{shapeOf, homes, keys}
+use Rattle.rules.specs.Shape.{shapeOf, homes, keys, goodTable}
+use Rattle.rules.specs.Answer.{says, leaves}
+use Rattle.rules.specs.Build.{build}
 use Rattle.theory.specs.Perm.{All}
 use Rattle.theory.specs.Keys.{Ascending, listed}
-use Rattle.demands.specs.Terms.{PlainTable, InKeys, listOf, distinct}
+use Rattle.demands.specs.Terms.{PlainTable, InKeys, listOf, distinct, putAll}
 use Rattle.demands.specs.Demand2.{list-ascends}
 use Rattle.format.specs.Digits.{wordDigits}
 use Rattle.format.specs.Lines.{First, inLimits, goodLine}
@@ -21,10 +24,12 @@ use Rattle.format.specs.Rounds.{Floor, start, allAnswered, rounds, play}
 use Rattle.format.specs.Frame.{Stage, among, dawn, usedPart, printed, lineIn, endAt, atEnd, outputFrom}
 use Rattle.together.specs.Machine.{Said, timesInserted}
 use Rattle.together.specs.Demand3.{wasInserted}
-use Rattle.day.specs.Terms.{paired, keysIn, Follows, dayAfter, history, lineHistory, printedBy, shownAnswers}
+use Rattle.day.specs.Terms.{paired, keysIn, insertedIn, Follows, dayAfter, history, lineHistory, printedBy}
+use Rattle.day.specs.Terms.{shownAnswers}
 use Rattle.day.specs.Moments.{rounds-follow, play-follows}
 use Rattle.day.specs.Line as line
 use Rattle.day.specs.Room as room
+use Rattle.day.specs.Kept as kept
 use Rattle.day.specs.Days.{day-kept}
 use Rattle.day.specs.Printing.{output-parts, day-prints}
 
@@ -69,11 +74,15 @@ module _ {m r : ℕ} {bytes : List ℕ} (t : PlainTable m r bytes) (n : ℕ) (fe
       pub line-new : (x : ℕ) → listed x (listOf m r bytes) ≡ true → timesInserted x answers ≡ 0
       line-new = line.line-new t n few course-of-line complete
 
-      -- and if the keys from before and the line's are no more distinct keys than places without guards, none is full
-      pub line-none-full :
-          distinct (shapeOf m r) (listOf m r bytes ++ ks) ≤ homes (shapeOf m r) →
-          All (λ (s : Said). s .answer ≢ 3) answers
-      line-none-full = room.line-none-full t n few course-of-line complete h
+      -- If the keys from before and the line's are no more distinct keys than places without guards,
+      module _ (fits : distinct (shapeOf m r) (listOf m r bytes ++ ks) ≤ homes (shapeOf m r)) where
+        -- none is answered full,
+        pub line-none-full : All (λ (s : Said). s .answer ≢ 3) answers
+        line-none-full = room.line-none-full t n few course-of-line complete h fits
+
+        -- and the bytes are those of putting the keys answered inserted one by one
+        pub line-bytes : putAll m r bytes (insertedIn answers) ≡ end .table
+        line-bytes = room.line-bytes t n few course-of-line complete h fits
 
 -- ---- a whole day from the zero table: as long as the run has a good first line and has not ended,
 module _ (lines : List (List ℕ)) (f : First) (on : dayAfter dawn lines .stage ≡ among f) where
@@ -117,12 +126,22 @@ module _ (lines : List (List ℕ)) (f : First) (on : dayAfter dawn lines .stage 
   pub day-answers : All (λ (s : Said). (1 ≤ s .answer) × (s .answer ≤ 3)) past
   day-answers = day-kept lines f on .known
 
-  -- if the accepted keys are no more distinct keys than places without guards, none is answered full
-  pub day-none-full :
-      distinct (shapeOf (f .m) (f .r)) (keysIn past) ≤ homes (shapeOf (f .m) (f .r)) →
-      All (λ (s : Said). s .answer ≢ 3) past
-  day-none-full fits =
-      day-kept lines f on .none-full (keysIn past) (day-kept lines f on .in-keys) fits (λ x there. there)
+  -- If the accepted keys are no more distinct keys than places without guards,
+  module _ (fits : distinct (shapeOf (f .m) (f .r)) (keysIn past) ≤ homes (shapeOf (f .m) (f .r))) where
+    -- none is answered full,
+    pub day-none-full : All (λ (s : Said). s .answer ≢ 3) past
+    day-none-full = kept.has-room (day-kept lines f on) fits .none-full
+
+    -- each of them is answered inserted exactly once,
+    pub day-accepted-once : (x : ℕ) → listed x (keysIn past) ≡ true → timesInserted x past ≡ 1
+    day-accepted-once = kept.accepted-once (day-kept lines f on) fits
+
+    -- and the table is what building them gives, whatever the tasks and the rounds were
+    pub day-bytes :
+        (bytes : List ℕ) →
+        goodTable (shapeOf (f .m) (f .r)) (length bytes) ≡ true →
+        build (f .m) (f .r) bytes (keysIn past) ≡ leaves (says 0) table
+    day-bytes = kept.kept-built (day-kept lines f on) fits
 
   -- the next line, if it is one of keys and does not end the run, prints its keys' answers,
   pub day-line-prints :

@@ -1,37 +1,35 @@
 -- One line whose keys are all answered: its answers are its course's, up to their order, so what demand 3 says of the
 -- course holds of the line. The statements are in Day.
 -- Assumes nothing.
-use Prim.Native.Nat.{ℕ, zero, suc, _+_, _≤_, _<_}
+use Prim.Native.Nat.{ℕ, _+_, _≤_}
 use mathlib.Core.Path.{_≡_, refl, sym, ap, ap₂, _∙_, subst}
-use mathlib.Core.Logic.{_⊎_, _≢_, inl, inr}
-use mathlib.Core.Bool.{Bool, true, false, not, cond, _&&_, _||_, true≢false, false≢true}
-use mathlib.Core.List.{List, [], _∷_, _++_, map}
+use mathlib.Core.Bool.{Bool, true, false, not, _&&_, _||_}
+use mathlib.Core.List.{List, [], _∷_}
 use native.Mathlib.Omega.{arith}
 use lib.ListN.{length, take, replicate, length-replicate}
 use lib.Seq.{take-length}
 use lib.Dec.{eqb, leb}
-use borrow.Author.Tests.{eqb-true, eqb-false, eq-eqb, ne-eqb, leb-true, le-leb, not-false}
+use borrow.Author.Tests.{eqb-true, eq-eqb, leb-true, le-leb, not-false}
 use Rattle.rules.specs.declared.Task.{Task}
-use Rattle.rules.specs.Lists.{bitOf, count, all, any}
-use Rattle.rules.specs.Shape.{shapeOf, homes}
+use Rattle.rules.specs.Lists.{bitOf, count, all}
 use Rattle.rules.specs.Record.{within, atRest}
 use Rattle.rules.specs.Give.{noTask}
 use Rattle.theory.specs.Perm as perm
 use Rattle.theory.specs.Perm.{All}
 use Rattle.theory.specs.Dealt.{and-left, and-right, and-both}
 use Rattle.theory.specs.Keys.{listed}
-use Rattle.demands.specs.Terms.{PlainTable, listOf, distinct}
+use Rattle.demands.specs.Terms.{PlainTable, listOf}
 use Rattle.format.specs.Rounds.{Floor, allAnswered}
-use Rattle.together.specs.Machine.{Action, Said, World, begin, course, quiet, timesGiven, timesSaid, timesInserted}
+use Rattle.together.specs.Machine.{Said, World, begin, course, quiet, timesGiven, timesSaid, timesInserted}
 use Rattle.together.specs.Demand3 as demand-3
 use Rattle.together.specs.Demand3.{wasInserted}
 use Rattle.day.specs.Terms.{paired, answeredSo, Follows}
 use Rattle.day.specs.Counting.{count-also, count-same, count-none, none-counted}
-use Rattle.day.specs.Counting.{count-map, paired-parts}
+use Rattle.day.specs.Counting.{eqb-sym, count-map, paired-parts}
 use Rattle.day.specs.Moments.{idle-tasks}
 
 -- ---- lists that have as many of every kind
-abbrev pub Alike : {A : Type 0} → List A → List A → Type 0
+abbrev Alike : {A : Type 0} → List A → List A → Type 0
 Alike {A} xs ys = (p : A → Bool) → count p xs ≡ count p ys
 
 -- what holds of all of one, and can be tested, holds of all of the other
@@ -54,13 +52,6 @@ every-key {Q} (s ∷ ss) h = perm.both (first (h (s .key))) (every-key ss (λ x.
         (x : ℕ) → All (λ (u : Said). eqb (u .key) x ≡ true → Q u) (s ∷ ss) →
         All (λ (u : Said). eqb (u .key) x ≡ true → Q u) ss
     rest x (perm.both q qs) = qs
-
-eqb-sym : (a b : ℕ) → eqb a b ≡ eqb b a
-eqb-sym a b = go (eqb b a) refl
-  where
-    go : (c : Bool) → eqb b a ≡ c → eqb a b ≡ c
-    go true e = eq-eqb a b (sym (eqb-true b a e))
-    go false e = ne-eqb a b (λ same. eqb-false b a e (sym same))
 
 times-given : (x : ℕ) (ks : List ℕ) → timesGiven x ks ≡ count (λ (k : ℕ). eqb k x) ks
 unfolding timesGiven count
@@ -119,7 +110,7 @@ module _ {m r : ℕ} {bytes : List ℕ} (t : PlainTable m r bytes) (n : ℕ) (fe
     pub answers-alike : (p : Said → Bool) → count p (after .said) ≡ count p answers
     answers-alike p = run .same-answers p ∙ count-also (λ (s : Said). leb 1 (s .answer)) p has-answer
 
-    inserted-alike : (x : ℕ) → timesInserted x (after .said) ≡ timesInserted x answers
+    pub inserted-alike : (x : ℕ) → timesInserted x (after .said) ≡ timesInserted x answers
     unfolding timesInserted
     inserted-alike x = answers-alike (λ (s : Said). eqb (s .key) x && eqb (s .answer) 2)
 

@@ -1,5 +1,5 @@
 -- Every moment of a line's rounds is reached by a course of gives and steps, with the floor beside its history:
--- `Moment`. A turn is at most one action (`turn-moment`); rounds follow (`rounds-moment`).
+-- `Moment`. A turn is at most one action (`turn-moment`), so rounds follow a course (`rounds-follow`).
 -- Assumes nothing.
 use Prim.Native.Nat.{ℕ, zero, suc, _+_, _≤_, _<_}
 use mathlib.Core.Path.{_≡_, refl, sym, ap, _∙_, subst}
@@ -9,22 +9,21 @@ use mathlib.Core.List.{List, [], _∷_, _++_}
 use native.Mathlib.Omega.{arith}
 use lib.ListN.{length, getD, set, replicate, length-set, length-replicate}
 use lib.Dec.{eqb, leb, ltb}
-use borrow.Author.Tests.{eqb-true, le-leb, leb-true, lt-ltb, ltb-true}
+use borrow.Author.Tests.{le-leb, leb-true, lt-ltb, ltb-true}
 use Rattle.rules.specs.declared.Shape.{Shape}
 use Rattle.rules.specs.declared.Task.{Task}
 use Rattle.rules.specs.Lists.{count, all}
-use Rattle.rules.specs.Word.{Word}
 use Rattle.rules.specs.Bytes.{wordsOf, bytesOf}
-use Rattle.rules.specs.Shape.{shapeOf, inRange, remainders, keys, goodTable}
-use Rattle.rules.specs.Answer.{says, Leaves, leaves}
+use Rattle.rules.specs.Shape.{shapeOf, keys}
+use Rattle.rules.specs.Answer.{says, leaves}
 use Rattle.rules.specs.Record.{within, busy, atRest, fitsBusy, fits}
 use Rattle.rules.specs.Give.{given, noTask, taskAt, goodTask, giveTo, give}
-use Rattle.rules.specs.Step.{Lent, lentAfter, step}
+use Rattle.rules.specs.Step.{lentAfter, step}
 use Rattle.words.specs.Range.{good-table, remainders-high, range-in}
 use Rattle.theory.specs.Dealt.{and-left, and-right, and-both}
 use Rattle.demands.specs.Terms.{PlainTable, InKeys}
 use Rattle.format.specs.Rounds as rounds-of
-use Rattle.format.specs.Rounds.{Floor, start, afterTake, turn, turns, round, rounds, allAnswered, limit, play}
+use Rattle.format.specs.Rounds.{Floor, start, turn, turns, round, rounds, allAnswered, limit, play}
 use Rattle.together.specs.Machine.{Action, gives, steps, Said, World, begin, afterGive, afterStep, act, course}
 use Rattle.together.specs.Machine.{quiet}
 use Rattle.together.specs.Update.{task-same}
@@ -34,10 +33,10 @@ use Rattle.together.specs.Course.{walk}
 use Rattle.together.specs.History.{heard, rest-phase}
 use Rattle.together.specs.Fair.{Fair, fair-begin, fair-course}
 use Rattle.day.specs.Terms.{Follows}
-use Rattle.day.specs.Beside.{Beside, beside-start, idle-at, took, beside-take, stepped, beside-step}
+use Rattle.day.specs.Beside.{Beside, beside-start, took, beside-take, stepped, beside-step}
 
 -- ---- courses and what they start from
-pub course-append :
+course-append :
     (m r : ℕ) (w : World) (first more : List Action) →
     course m r w (first ++ more) ≡ course m r (course m r w first) more
 unfolding course
@@ -50,19 +49,19 @@ idle-tasks zero = refl
 idle-tasks (suc n) = idle-tasks n
 
 -- a floor's table and tasks, and a history
-abbrev pub world : Floor → List ℕ → List Said → World
+abbrev world : Floor → List ℕ → List Said → World
 world f accepted said = record { table = f .table; tasks = f .tasks; given = accepted; said = said }
 
-pub record Moment (m r n : ℕ) (bytes ks : List ℕ) (f : Floor) : Type 0 where
-  pub actions : List Action
-  pub accepted : List ℕ
-  pub said : List Said
-  pub reached : course m r (begin bytes (replicate n noTask)) actions ≡ world f accepted said
-  pub crew : length (f .tasks) ≡ n
-  pub beside : Beside ks f accepted said
+record Moment (m r n : ℕ) (bytes ks : List ℕ) (f : Floor) : Type 0 where
+  actions : List Action
+  accepted : List ℕ
+  said : List Said
+  reached : course m r (begin bytes (replicate n noTask)) actions ≡ world f accepted said
+  crew : length (f .tasks) ≡ n
+  beside : Beside ks f accepted said
 
 -- what a moment says of its course alone
-pub moment-follows :
+moment-follows :
     {m r n : ℕ} {bytes ks : List ℕ} {f : Floor} → Moment m r n bytes ks f → Follows m r n bytes ks f
 moment-follows {m} {r} {n} {bytes} {ks} {f} now =
     record {
@@ -104,7 +103,7 @@ module _ {m r : ℕ} {bytes : List ℕ} (n : ℕ) (ks : List ℕ) (t : PlainTabl
     (h : InKeys (shapeOf m r) ks)
   where
     -- demand 3's invariant holds at every moment
-    pub moment-fair : {f : Floor} (now : Moment m r n bytes ks f) → Fair m r bytes (world f (now .accepted) (now .said))
+    moment-fair : {f : Floor} (now : Moment m r n bytes ks f) → Fair m r bytes (world f (now .accepted) (now .said))
     unfolding quiet
     moment-fair now =
         subst
@@ -114,7 +113,7 @@ module _ {m r : ℕ} {bytes : List ℕ} (n : ℕ) (ks : List ℕ) (t : PlainTabl
         (now .actions)
         (fair-begin (replicate n noTask) t (omega (arith, length-replicate n noTask)) (idle-tasks n)))
 
-    pub moment-start : Moment m r n bytes ks (start bytes n ks)
+    moment-start : Moment m r n bytes ks (start bytes n ks)
     unfolding start course
     moment-start =
         record {
@@ -260,13 +259,14 @@ module _ {m r : ℕ} {bytes : List ℕ} (n : ℕ) (ks : List ℕ) (t : PlainTabl
                 }
 
       -- ---- a turn
-      pub turn-moment : Moment m r n bytes ks (turn m r ks i f)
+      turn-moment : Moment m r n bytes ks (turn m r ks i f)
       unfolding turn
       turn-moment = go (atRest (taskAt (f .tasks) i)) (ltb (f .taken) (length ks)) refl refl
         where
           go :
               (a b : Bool) →
-              atRest (taskAt (f .tasks) i) ≡ a → ltb (f .taken) (length ks) ≡ b → Moment m r n bytes ks (turn m r ks i f)
+              atRest (taskAt (f .tasks) i) ≡ a →
+              ltb (f .taken) (length ks) ≡ b → Moment m r n bytes ks (turn m r ks i f)
           go true true x y =
               let more = ltb-true (f .taken) (length ks) y in
               rw (x, y, accepts x more) (moment-took x more)
@@ -281,7 +281,7 @@ module _ {m r : ℕ} {bytes : List ℕ} (n : ℕ) (ks : List ℕ) (t : PlainTabl
     turns-moment (suc k) i le now =
         turns-moment k (suc i) (omega arith) (turn-moment now i (omega arith))
 
-    pub rounds-moment : (k : ℕ) {f : Floor} → Moment m r n bytes ks f → Moment m r n bytes ks (rounds m r ks k f)
+    rounds-moment : (k : ℕ) {f : Floor} → Moment m r n bytes ks f → Moment m r n bytes ks (rounds m r ks k f)
     unfolding rounds round
     rounds-moment zero now = now
     rounds-moment (suc k) {f} now =

@@ -10,13 +10,14 @@ use Rattle.rules.specs.Shape.{shapeOf}
 use Rattle.format.specs.Digits.{digitsOf}
 use Rattle.format.specs.Lines.{First, keysOf, goodLine}
 use Rattle.format.specs.Rounds.{Floor, allAnswered, play}
-use Rattle.format.specs.Frame.{Stage, atFirst, among, ended, Day, dawn, usedPart, withUsed, After, after, printed, error}
-use Rattle.format.specs.Frame.{playedLine, frameLine, lineAt, lineIn, outputFrom, atEnd}
+use Rattle.format.specs.Frame.{Stage, atFirst, among, ended, Day, dawn, usedPart, withUsed, After, after, printed}
+use Rattle.format.specs.Frame.{error, playedLine, frameLine, lineAt, lineIn, outputFrom, atEnd}
 use Rattle.together.specs.Machine.{Said}
-use Rattle.day.specs.Terms.{paired, Follows, playedHistory, frameHistory, historyAt, lineHistory, shownAnswers}
+use Rattle.day.specs.Terms.{paired, playedHistory, frameHistory, historyAt, lineHistory, shownAnswers}
 use Rattle.day.specs.Terms.{dayAfter, printedBy}
 use Rattle.day.specs.Counting.{paired-parts}
-use Rattle.day.specs.Days.{Kept, course-of, good-keys, day-kept}
+use Rattle.day.specs.Kept.{Kept}
+use Rattle.day.specs.Days.{course-of, good-keys, day-kept}
 
 -- ---- the whole output
 pub output-parts :
@@ -43,13 +44,16 @@ played-prints :
 unfolding playedLine playedHistory
 played-prints f table ks p size on = go (allAnswered ks p) on
   where
-    bytes : List ℕ
-    bytes = withUsed f (p .table) table
+    answered : After
+    answered = after (among f) (withUsed f (p .table) table) (printed (digitsOf (p .answers)))
+
+    cut : After
+    cut = after ended (withUsed f (p .table) table) error
 
     go :
         (b : Bool) →
-        going (cond b (after (among f) bytes (printed (digitsOf (p .answers)))) (after ended bytes error) .day .stage) ≡ true →
-        cond b (after (among f) bytes (printed (digitsOf (p .answers)))) (after ended bytes error) .prints
+        going (cond b answered cut .day .stage) ≡ true →
+        cond b answered cut .prints
         ≡ shownAnswers (cond b (paired ks (p .answers)) [])
     go true e = ap (λ (answers : List ℕ). printed (digitsOf answers)) (sym (paired-parts ks (p .answers) size .1))
     go false e = absurd (false≢true e)

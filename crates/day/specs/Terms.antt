@@ -6,15 +6,15 @@ use mathlib.Core.Path.{_≡_}
 use mathlib.Core.Bool.{Bool, cond, _&&_}
 use mathlib.Core.List.{List, [], _∷_, _++_, map}
 use lib.ListN.{length, take, replicate}
-use lib.Dec.{leb}
+use lib.Dec.{eqb, leb}
 use Rattle.rules.specs.Lists.{count}
 use Rattle.rules.specs.Shape.{shapeOf}
 use Rattle.rules.specs.Give.{noTask}
 use Rattle.format.specs.Digits.{digitsOf}
 use Rattle.format.specs.Lines.{First, keysOf, goodLine}
 use Rattle.format.specs.Rounds.{Floor, allAnswered, play}
-use Rattle.format.specs.Frame.{Stage, atFirst, among, ended, Day, After, usedPart, lineIn, printed}
-use Rattle.together.specs.Machine.{Action, Said, World, begin, course}
+use Rattle.format.specs.Frame.{Stage, atFirst, among, ended, Day, usedPart, lineIn, printed}
+use Rattle.together.specs.Machine.{Action, Said, begin, course}
 
 -- keys, each with its answer
 unfoldable pub paired : List ℕ → List ℕ → List Said
@@ -25,6 +25,11 @@ paired (k ∷ ks) (a ∷ answers) = record { key = k; answer = a } ∷ paired ks
 -- the keys alone
 abbrev pub keysIn : List Said → List ℕ
 keysIn past = map (λ (s : Said). s .key) past
+
+-- the keys that were answered inserted
+unfoldable pub insertedIn : List Said → List ℕ
+insertedIn [] = []
+insertedIn (s ∷ past) = cond (eqb (s .answer) 2) (s .key ∷ insertedIn past) (insertedIn past)
 
 -- those that have an answer by now, and pass a test
 abbrev pub answeredSo : (Said → Bool) → Said → Bool
