@@ -1,5 +1,5 @@
--- Room: where a line's keys and those in the table fit, no answer is full, each key is listed afterwards, and the bytes
--- are those of puts. Before that: tests of a list by counts, fewer keys, and the keys answered inserted.
+-- Room: where a line's keys and those in the table fit, no answer is full, each key is listed afterwards, and the
+-- bytes are those of puts. Before that: tests of a list by counts, fewer keys, and the keys answered inserted.
 -- Assumes nothing.
 use Prim.Native.Nat.{ℕ, _+_, _≤_}
 use mathlib.Core.Path.{_≡_, refl, sym, ap, _∙_}
