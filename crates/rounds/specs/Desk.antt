@@ -4,11 +4,11 @@
 use Prim.Native.Nat.{ℕ, zero, suc, _+_, _-_, _/_, _≤_, _<_}
 use mathlib.Core.Path.{_≡_, refl, sym, ap, _∙_}
 use mathlib.Core.Bool.{Bool, true, false, cond, _&&_}
-use mathlib.Core.List.{List, _∷_}
+use mathlib.Core.List.{List}
 use native.Mathlib.Numerals.{add-one}
 use native.Mathlib.Omega.{arith}
-use lib.ListN.{length, getD, set, take, drop, drop-of-length-le, length-set}
-use lib.Seq.{getD-take, take-set-lt, length-take-le, drop-cons}
+use lib.ListN.{length, getD, set, take, drop, length-set}
+use lib.Seq.{getD-take, take-set-lt, length-take-le}
 use lib.Dec.{eqb}
 use borrow.Author.Tests.{eq-eqb, ne-eqb}
 use Rattle.rules.specs.declared.Task.{Task}
@@ -19,6 +19,7 @@ use Rattle.format.specs.Lines.{keysOf}
 use Rattle.format.specs.Rounds.{Floor, turn, turns, round, allAnswered, rounds}
 use Rattle.rounds.specs.declared.round.Desk.{Desk}
 use Rattle.rounds.specs.declared.turn.Sitting.{Sitting}
+use Rattle.rounds.specs.All.{all-on, all-stops, all-ends}
 use Rattle.rounds.specs.Keys.{keys-length}
 use Rattle.rounds.specs.Sitting.{Sat, sat, turnOne, sittingAt, putBack, turn-one}
 
@@ -121,24 +122,21 @@ module _ {m r : ℕ} {ks : List ℕ} {n : ℕ} (few : n ≤ 16) where
       turning-ends done = sym (turns-end m r ks n few i (floorWith n table answers ts hs k) done) ∙ inv .left
 
 -- ---- whether the first n tasks are all at rest
-module _ (ts : List Task) (n i : ℕ) (here : i < n) (few : n ≤ length ts) where
-  next : drop i (take n ts) ≡ taskAt ts i ∷ drop (i + 1) (take n ts)
-  next =
-      rw (add-one i, sym (getD-take n ts i noTask here))
-      (drop-cons (take n ts) i noTask (omega (arith, length-take-le n ts few)))
+module _ (ts : List Task) (n i : ℕ) (few : n ≤ length ts) where
+  sized : length (take n ts) ≡ n
+  sized = length-take-le n ts few
 
   pub rest-on :
-      atRest (taskAt ts i) ≡ true → all atRest (drop (i + 1) (take n ts)) ≡ all atRest (drop i (take n ts))
-  unfolding all
-  rest-on e = rw (next, e)
+      i < n → atRest (taskAt ts i) ≡ true → all atRest (drop (i + 1) (take n ts)) ≡ all atRest (drop i (take n ts))
+  rest-on here e =
+      all-on atRest (take n ts) i noTask (omega (arith, sized)) (ap atRest (getD-take n ts i noTask here) ∙ e)
 
-  pub rest-stops : atRest (taskAt ts i) ≡ false → all atRest (drop i (take n ts)) ≡ false
-  unfolding all
-  rest-stops e = rw (next, e)
+  pub rest-stops : i < n → atRest (taskAt ts i) ≡ false → all atRest (drop i (take n ts)) ≡ false
+  rest-stops here e =
+      all-stops atRest (take n ts) i noTask (omega (arith, sized)) (ap atRest (getD-take n ts i noTask here) ∙ e)
 
-pub rest-ends : (ts : List Task) (n i : ℕ) → n ≤ i → n ≤ length ts → all atRest (drop i (take n ts)) ≡ true
-unfolding all
-rest-ends ts n i done few = rw (drop-of-length-le (take n ts) {i = i} (omega (arith, length-take-le n ts few)))
+  pub rest-ends : n ≤ i → all atRest (drop i (take n ts)) ≡ true
+  rest-ends done = all-ends atRest (take n ts) i noTask (omega (arith, sized))
 
 -- ---- whether all of the line's keys are answered, by the desk alone
 unfoldable pub answeredAt : ℕ → List ℕ → Desk → Bool

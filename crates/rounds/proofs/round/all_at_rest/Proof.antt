@@ -38,8 +38,8 @@ loop-again c =
     let turn = c .before in
     let start = turn .before .before in (
       omega (arith, turn .loop-test .taken),
-      rest-on (start .args .t1) (start .args .n) (turn .before .loop .i) (turn .loop-test .taken)
-          (omega (arith, start .pre, start .good)) (resting _ (c .match .keys1))
+      rest-on (start .args .t1) (start .args .n) (turn .before .loop .i) (omega (arith, start .pre, start .good))
+          (turn .loop-test .taken) (resting _ (c .match .keys1))
           ∙ turn .before .loop .inv .1,
     )
 
@@ -49,15 +49,15 @@ returns c =
     let start = turn .before .before in
     sym
     (sym (turn .before .loop .inv .1)
-    ∙ rest-stops (start .args .t1) (start .args .n) (turn .before .loop .i) (turn .loop-test .taken)
-    (omega (arith, start .pre, start .good)) (not-resting _ (c .match .rest .1)))
+    ∙ rest-stops (start .args .t1) (start .args .n) (turn .before .loop .i)
+    (omega (arith, start .pre, start .good)) (turn .loop-test .taken) (not-resting _ (c .match .rest .1)))
 
 returns-2 : tie.Need-returns-2 Inv-loop μ-loop
 returns-2 c =
     let head = c .before in
     let start = head .before in
-    sym (rest-ends (start .args .t1) (start .args .n) (head .loop .i) (c .loop-test .left)
-    (omega (arith, start .pre, start .good))) ∙ head .loop .inv .1
+    sym (rest-ends (start .args .t1) (start .args .n) (head .loop .i)
+    (omega (arith, start .pre, start .good)) (c .loop-test .left)) ∙ head .loop .inv .1
 
 pub all-at-rest-spec : {M : Type 1} → statement M
 all-at-rest-spec =
