@@ -1,0 +1,4 @@
+-- What the frame library's functions leave, and the laws of their loops and branches, by subject.
+pub mod Check
+pub mod Hold
+pub mod Closing
