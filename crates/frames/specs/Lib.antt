@@ -2,3 +2,6 @@
 pub mod Check
 pub mod Hold
 pub mod Closing
+pub mod Printing
+pub mod Limiting
+pub mod Framing

@@ -11,7 +11,8 @@ ghost use mathlib.Core.List.{[]};
 ghost use Prim.Native.Nat.{_≤_};
 ghost use lib.ListN.{length};
 ghost use Rattle.format.specs.Lines.{inLimits};
-ghost use Rattle.format.specs.Frame.{firstLine};
+ghost use Rattle.format.specs.Frame.{ended, after, firstLine};
+ghost use Rattle.format.specs.Frame as frame;
 ghost use Rattle.format.specs.Feed.{heldLine};
 ghost use Rattle.frames.specs.Closing.{closed, closing, firstIs};
 
@@ -28,6 +29,18 @@ fn in_limits(m: u32, r: u32, tasks: u32) -> bool
             _ => false,
         },
         _ => false,
+    }
+}
+
+// A bad first line prints EE and ends the run.
+fn bad_first(out: &mut [u8]) -> Closed
+    requires { ⌜ 3 ≤ length (now out) ⌝ }
+    ensures { λ c. ⌜ closed c [] (now (out .exit)) ≡ closing (after ended [] frame.error) (now (out .entry)) ⌝ }
+{
+    let n = error(out);
+    Closed {
+        run: run_ended(),
+        wrote: n,
     }
 }
 
@@ -51,12 +64,11 @@ fn first_of_six(text: &[u8], out: &mut [u8]) -> Closed
                 },
                 wrote: 0,
             };
+        } else {
+            return bad_first(out);
         }
-    }
-    let n = error(out);
-    Closed {
-        run: run_ended(),
-        wrote: n,
+    } else {
+        return bad_first(out);
     }
 }
 
@@ -67,10 +79,7 @@ pub fn first_line(held: usize, line: &[u8], out: &mut [u8]) -> Closed
 {
     if held == 6 {
         return first_of_six(&line[0..6], out);
-    }
-    let n = error(out);
-    Closed {
-        run: run_ended(),
-        wrote: n,
+    } else {
+        return bad_first(out);
     }
 }

@@ -14,10 +14,10 @@ ghost use mathlib.Core.Bool.{true};
 ghost use mathlib.Core.List.{[]};
 ghost use Prim.Native.Nat.{_≤_};
 ghost use lib.ListN.{length};
+ghost use Rattle.format.specs.Lines.{inLimits};
 ghost use Rattle.format.specs.Frame.{among, frameLine};
 ghost use Rattle.format.specs.Call.{lineSays};
 ghost use Rattle.format.specs.Feed.{runOf, heldLine, firstIn};
-ghost use Rattle.pieces.specs.Limits.{Limits};
 ghost use Rattle.frames.specs.Closing.{closed, closing, fewAnswers, lineCame};
 
 // The run among its frames, with no byte of a line held.
@@ -73,7 +73,7 @@ fn print_line(run: Run, answer: LineAnswer, slots: [u8; 512], out: &mut [u8]) ->
 
 // A line that is held whole.
 fn text_line(run: Run, text: &[u8], table: &mut [u8], out: &mut [u8]) -> Closed
-    requires { ⌜ Limits (firstIn run) ⌝ ∗ ⌜ length (now table) ≡ 32772 ⌝ ∗ ⌜ 1025 ≤ length (now out) ⌝ }
+    requires { ⌜ inLimits (firstIn run) ≡ true ⌝ ∗ ⌜ length (now table) ≡ 32772 ⌝ ∗ ⌜ 1025 ≤ length (now out) ⌝ }
     ensures { λ c. ⌜ closed c (now (table .exit)) (now (out .exit))
         ≡ closing (frameLine (firstIn run) (now (table .entry)) (now (text .entry))) (now (out .entry)) ⌝ }
 {
@@ -91,7 +91,7 @@ fn text_line(run: Run, text: &[u8], table: &mut [u8], out: &mut [u8]) -> Closed
 }
 
 pub fn frame_line(run: Run, held: usize, line: &[u8], table: &mut [u8], out: &mut [u8]) -> Closed
-    requires { ⌜ Limits (firstIn run) ⌝ ∗ ⌜ length (now table) ≡ 32772 ⌝ ∗ ⌜ 4096 ≤ length (now line) ⌝
+    requires { ⌜ inLimits (firstIn run) ≡ true ⌝ ∗ ⌜ length (now table) ≡ 32772 ⌝ ∗ ⌜ 4096 ≤ length (now line) ⌝
         ∗ ⌜ 1025 ≤ length (now out) ⌝ }
     ensures { λ c. ⌜ closed c (now (table .exit)) (now (out .exit))
         ≡ closing (frameLine (firstIn run) (now (table .entry)) (heldLine held (now (line .entry))))

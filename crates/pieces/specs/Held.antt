@@ -79,7 +79,7 @@ bad-first : (l : List ℕ) → 4096 < length l → goodFirst l ≡ false
 unfolding goodFirst
 bad-first l h = rw (ne-eqb (length l) 6 (λ e. omega arith))
 
-bad-line : (sh : Shape) (l : List ℕ) → 4096 < length l → goodLine sh l ≡ false
+pub bad-line : (sh : Shape) (l : List ℕ) → 4096 < length l → goodLine sh l ≡ false
 unfolding goodLine
 bad-line sh l h = rw (lt-leb (length l) 4096 h, and-false (all isDigit l && eqb (length l % 8) 0))
 

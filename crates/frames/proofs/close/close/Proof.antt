@@ -1,59 +1,59 @@
+-- `close` meets its contract, by the run's stage.
+-- Assumes nothing.
 use borrow.Author.Needs.{needs}
+use native.Mathlib.Omega.{arith}
+use denote.Ref.{now}
+use Rattle.frames.specs.Framing.{first-in, frame-in, ended-in, among-limits, day-size}
 use Rattle.frames.proofs.close.close.Statement.{statement}
 use Rattle.frames.proofs.close.close.Tie as tie
-use Rattle.frames.proofs.close.close.Reads as reads
-use Rattle.frames.proofs.close.close.Lts as lts
-use Rattle.frames.proofs.close.run_ended.Reads as run-ended-reads
-use Rattle.frames.proofs.first.first_line.Reads as first-line-reads
-use Rattle.frames.proofs.frame.frame_line.Reads as frame-line-reads
 
--- src/close.rt:46:50
 enum-told : tie.Need-enum-told
 enum-told c = search needs
 
--- src/close.rt:46:27
 first-line-requires : tie.Need-first-line-requires
 first-line-requires c κs = search needs
 
--- src/close.rt:47:53
 enum-told-2 : tie.Need-enum-told-2
 enum-told-2 c = search needs
 
--- src/close.rt:47:25
 frame-line-requires : tie.Need-frame-line-requires
-frame-line-requires c κs = ?
+frame-line-requires c κs =
+    let start = c .before .before .before .before .before .before .before in
+    let day = start .pre .day in
+    (
+      among-limits (start .args .run) (now (start .args .table)) day (c .before .before .enum-told2 .given .1),
+      (day-size (start .args .run) (now (start .args .table)) day, (start .pre .line, omega (arith, start .pre .out))),
+    )
 
--- src/close.rt:49:18
 enum-told-3 : tie.Need-enum-told-3
 enum-told-3 c = search needs
 
--- src/close.rt:49:18
 run-ended-requires : tie.Need-run-ended-requires
 run-ended-requires c κs = search needs
 
--- src/close.rt:39:1
 same-length : tie.Need-same-length
 same-length c = search needs
 
--- src/close.rt:39:1
 returns : tie.Need-returns
-returns c = ?
+returns c =
+    let start = c .before .before .before .before .before .before .before .before .before in
+    first-in (start .args .run) (now (start .args .table)) _ (now (start .args .out)) (c .before .before .before .before .enum-told .given .1) _ _ (c .before .before .first-line .ensures)
 
--- src/close.rt:39:1
 same-length-2 : tie.Need-same-length-2
 same-length-2 c = search needs
 
--- src/close.rt:39:1
 same-length-3 : tie.Need-same-length-3
 same-length-3 c = search needs
 
--- src/close.rt:39:1
 returns-2 : tie.Need-returns-2
-returns-2 c = ?
+returns-2 c =
+    let start = c .before .before .before .before .before .before .before .before .before .before .before .before in
+    frame-in (start .args .run) (now (start .args .table)) _ (now (start .args .out)) (c .before .before .before .before .before .before .before .enum-told2 .given .1) _ (c .before .before .before .before .frame-line .ensures)
 
--- src/close.rt:39:1
 returns-3 : tie.Need-returns-3
-returns-3 c = ?
+returns-3 c =
+    let start = c .before .before .before .before .before .before in
+    ended-in (start .args .run) (now (start .args .table)) _ (now (start .args .out)) (c .before .enum-told3 .given .1) _ (c .run-ended .ensures)
 
 pub close-spec : {M : Type 1} → statement M
 close-spec =

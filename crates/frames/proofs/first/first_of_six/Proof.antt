@@ -1,53 +1,79 @@
+-- `first_of_six` meets its contract: digits alone, and each number within its limits.
+-- Assumes nothing.
 use borrow.Author.Needs.{needs}
+use mathlib.Core.Path.{sym, _∙_}
+use native.Mathlib.Omega.{arith}
+use Rattle.frames.specs.Limiting.{first-other, first-good, first-far}
 use Rattle.frames.proofs.first.first_of_six.Statement.{statement}
 use Rattle.frames.proofs.first.first_of_six.Tie as tie
-use Rattle.frames.proofs.first.first_of_six.Reads as reads
-use Rattle.frames.proofs.first.first_of_six.Lts as lts
-use Rattle.digits.proofs.read.all_digits.Reads as all-digits-reads
-use Rattle.digits.proofs.read.number.Reads as number-reads
-use Rattle.frames.proofs.close.run_ended.Reads as run-ended-reads
-use Rattle.frames.proofs.first.in_limits.Reads as in-limits-reads
-use Rattle.frames.proofs.print.error.Reads as error-reads
 
--- src/first.rt:39:8
 all-digits-requires : tie.Need-all-digits-requires
 all-digits-requires c κs = search needs
 
--- src/first.rt:40:13
 number-requires : tie.Need-number-requires
-number-requires c κs = ?
+number-requires c κs =
+    let start = c .before .before .before .before in
+    (omega arith, (omega (arith, start .pre .0), sym (c .before .all-digits .ensures) ∙ c .if1 .taken))
 
--- src/first.rt:41:13
 number-requires-2 : tie.Need-number-requires-2
-number-requires-2 c κs = ?
+number-requires-2 c κs =
+    let start = c .before .before .before .before .before in
+    (omega arith, (omega (arith, start .pre .0), sym (c .before .before .all-digits .ensures) ∙ c .before .if1 .taken))
 
--- src/first.rt:42:13
 number-requires-3 : tie.Need-number-requires-3
-number-requires-3 c κs = ?
+number-requires-3 c κs =
+    let start = c .before .before .before .before .before .before in
+    (
+      omega arith,
+      (omega (arith, start .pre .0), sym (c .before .before .before .all-digits .ensures) ∙ c .before .before .if1 .taken),
+    )
 
--- src/first.rt:43:12
 in-limits-requires : tie.Need-in-limits-requires
 in-limits-requires c κs = search needs
 
--- src/first.rt:44:13
 returns : tie.Need-returns
-returns c = ?
+returns c =
+    let limits = c .before in
+    let third = limits .before in
+    let second = third .before in
+    let one = second .before in
+    let digits = one .before .before in
+    let start = digits .before .before .before in
+    first-good _ _ _ (digits .all-digits .ensures) (start .pre .0) _ _ _ _ (one .before .if1 .taken)
+    (limits .in-limits .ensures) (one .number .ensures) (second .number2 .ensures) (third .number3 .ensures) (c .if2 .taken)
 
--- src/first.rt:56:9
-error-requires : tie.Need-error-requires
-error-requires c κs = search needs
+bad-first-requires : tie.Need-bad-first-requires
+bad-first-requires c κs = search needs
 
--- src/first.rt:58:14
-run-ended-requires : tie.Need-run-ended-requires
-run-ended-requires c κs = search needs
-
--- src/first.rt:35:1
 same-length : tie.Need-same-length
 same-length c = search needs
 
--- src/first.rt:35:1
 returns-2 : tie.Need-returns-2
-returns-2 c = ?
+returns-2 c =
+    let bad = c .before .before in
+    let limits = bad .before .before .before in
+    let third = limits .before in
+    let second = third .before in
+    let one = second .before in
+    let digits = one .before .before in
+    let start = digits .before .before .before in
+    first-far _ _ _ (digits .all-digits .ensures) (start .pre .0) _ _ _ _ (one .before .if1 .taken)
+    (limits .in-limits .ensures) (one .number .ensures) (second .number2 .ensures) (third .number3 .ensures)
+    _ (bad .bad-first .ensures) (bad .before .before .if2 .left)
+
+bad-first-requires-2 : tie.Need-bad-first-requires-2
+bad-first-requires-2 c κs = search needs
+
+same-length-2 : tie.Need-same-length-2
+same-length-2 c = search needs
+
+returns-3 : tie.Need-returns-3
+returns-3 c =
+    let bad = c .before .before in
+    let digits = bad .before .before .before in
+    let start = digits .before .before .before in
+    first-other _ _ _ (digits .all-digits .ensures) (start .pre .0) _ (bad .bad-first2 .ensures)
+    (bad .before .before .if1 .left)
 
 pub first-of-six-spec : {M : Type 1} → statement M
 first-of-six-spec =
@@ -59,7 +85,9 @@ first-of-six-spec =
     number-requires-3
     in-limits-requires
     returns
-    error-requires
-    run-ended-requires
+    bad-first-requires
     same-length
-    returns-2)
+    returns-2
+    bad-first-requires-2
+    same-length-2
+    returns-3)

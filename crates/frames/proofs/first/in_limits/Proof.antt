@@ -1,35 +1,62 @@
+-- `in_limits` meets its contract, number by number.
+-- Assumes nothing.
+use borrow.Author.Needs.{needs}
+use native.Mathlib.Omega.{arith}
+use Rattle.frames.specs.Limiting.{inside, below, above, all-in, not-m, not-r, not-tasks}
 use Rattle.frames.proofs.first.in_limits.Statement.{statement}
 use Rattle.frames.proofs.first.in_limits.Tie as tie
-use Rattle.frames.proofs.first.in_limits.Reads as reads
-use Rattle.frames.proofs.first.in_limits.Lts as lts
 
--- src/first.rt:19:1
 returns : tie.Need-returns
-returns c = ?
+returns c =
+    let r = c .before .before in
+    let m = r .before .before in
+    let a = m .before .before .args in
+    all-in (a .m) (a .r) (a .tasks)
+    (inside 1 14 (a .m) (omega (arith, m .before .if1 .left)) (omega (arith, m .if2 .taken)))
+    (inside 1 12 (a .r) (omega (arith, r .before .if3 .left)) (omega (arith, r .if4 .taken)))
+    (inside 1 16 (a .tasks) (omega (arith, c .before .if5 .left)) (omega (arith, c .if6 .taken)))
 
--- src/first.rt:19:1
 returns-2 : tie.Need-returns-2
-returns-2 c = ?
+returns-2 c =
+    let r = c .before in
+    let m = r .before .before in
+    let a = m .before .before .args in
+    not-tasks (a .m) (a .r) (a .tasks)
+    (inside 1 14 (a .m) (omega (arith, m .before .if1 .left)) (omega (arith, m .if2 .taken)))
+    (inside 1 12 (a .r) (omega (arith, r .before .if3 .left)) (omega (arith, r .if4 .taken)))
+    (below 1 16 (a .tasks) (omega (arith, c .if5 .taken)))
 
--- src/first.rt:19:1
 returns-3 : tie.Need-returns-3
-returns-3 c = ?
+returns-3 c =
+    let r = c .before .before in
+    let m = r .before .before in
+    let a = m .before .before .args in
+    not-tasks (a .m) (a .r) (a .tasks)
+    (inside 1 14 (a .m) (omega (arith, m .before .if1 .left)) (omega (arith, m .if2 .taken)))
+    (inside 1 12 (a .r) (omega (arith, r .before .if3 .left)) (omega (arith, r .if4 .taken)))
+    (above 1 16 (a .tasks) (omega (arith, c .if6 .left)))
 
--- src/first.rt:19:1
 returns-4 : tie.Need-returns-4
-returns-4 c = ?
+returns-4 c =
+    let m = c .before in
+    let a = m .before .before .args in
+    not-r (a .m) (a .r) (a .tasks)
+    (inside 1 14 (a .m) (omega (arith, m .before .if1 .left)) (omega (arith, m .if2 .taken)))
+    (below 1 12 (a .r) (omega (arith, c .if3 .taken)))
 
--- src/first.rt:19:1
 returns-5 : tie.Need-returns-5
-returns-5 c = ?
+returns-5 c =
+    let m = c .before .before in
+    let a = m .before .before .args in
+    not-r (a .m) (a .r) (a .tasks)
+    (inside 1 14 (a .m) (omega (arith, m .before .if1 .left)) (omega (arith, m .if2 .taken)))
+    (above 1 12 (a .r) (omega (arith, c .if4 .left)))
 
--- src/first.rt:19:1
 returns-6 : tie.Need-returns-6
-returns-6 c = ?
+returns-6 c = search (needs, not-m, below, above)
 
--- src/first.rt:19:1
 returns-7 : tie.Need-returns-7
-returns-7 c = ?
+returns-7 c = search (needs, not-m, below, above)
 
 pub in-limits-spec : {M : Type 1} → statement M
 in-limits-spec =

@@ -1,68 +1,74 @@
+-- `text_line` meets its contract: the call for one line on the used part, and what it came to, printed.
+-- Assumes nothing.
 use borrow.Author.Needs.{needs}
+use mathlib.Core.Path.{refl}
+use native.Mathlib.Omega.{arith}
+use denote.Ref.{now}
+use Rattle.format.specs.Feed.{firstIn}
+use Rattle.lines.specs.Play.{range-as}
+use Rattle.frames.specs.Framing.{limits-range, used-inside, few-came, text-closed}
 use Rattle.frames.proofs.frame.text_line.Statement.{statement}
 use Rattle.frames.proofs.frame.text_line.Tie as tie
-use Rattle.frames.proofs.frame.text_line.Reads as reads
-use Rattle.frames.proofs.frame.text_line.Lts as lts
-use Rattle.frames.proofs.frame.print_line.Reads as print-line-reads
-use Rattle.lines.proofs.line.line.Reads as line-reads
-use Rattle.words.proofs.shape.homes.Reads as homes-reads
-use Rattle.words.proofs.shape.shape_of.Reads as shape-of-reads
 
--- src/frame.rt:80:24
 shape-of-requires : tie.Need-shape-of-requires
 shape-of-requires c κs = search needs
 
--- src/frame.rt:80:18
 homes-requires : tie.Need-homes-requires
-homes-requires c κs = ?
+homes-requires c κs =
+    range-as _ _ _ (c .shape-of .ensures) (limits-range _ (c .before .before .before .before .pre .0))
 
--- src/frame.rt:80:18
 cast-places : tie.Need-cast-places
 cast-places c = search needs
 
--- src/frame.rt:80:18
 add-places : tie.Need-add-places
 add-places c = search needs
 
--- src/frame.rt:82:66
 mul-line : tie.Need-mul-line
 mul-line c = search needs
 
--- src/frame.rt:82:52
 sub-line : tie.Need-sub-line
 sub-line c = search needs
 
--- src/frame.rt:82:52
 part-line-start : tie.Need-part-line-start
 part-line-start c = search needs
 
--- src/frame.rt:82:52
 part-line-end : tie.Need-part-line-end
-part-line-end c = ?
+part-line-end c =
+    let start = c .before .before .before .before .before in
+    omega (arith, start .pre .1 .0, used-inside _ (start .pre .0) _ _ (c .before .shape-of .ensures) (c .homes .ensures))
 
--- src/frame.rt:82:85
 slice-aggregate-line : tie.Need-slice-aggregate-line
 slice-aggregate-line c = search needs
 
--- src/frame.rt:82:9
 line-requires : tie.Need-line-requires
 line-requires c κs = search needs
 
--- src/frame.rt:83:5
 print-line-requires : tie.Need-print-line-requires
-print-line-requires c κs = ?
+print-line-requires c κs =
+    let asked = c .before .before .before .before in
+    let count = asked .before .before .before in
+    let start = count .before .before .before .before .before in
+    (
+      few-came (firstIn (start .args .run)) (start .pre .0) (now (start .args .table)) (now (start .args .text)) _
+          (start .pre .1 .0) refl _ _ (count .before .shape-of .ensures) (count .homes .ensures) _ _ _ (asked .line .ensures),
+      start .pre .1 .1,
+    )
 
--- src/frame.rt:75:1
 same-length : tie.Need-same-length
 same-length c = search needs
 
--- src/frame.rt:75:1
 same-length-2 : tie.Need-same-length-2
 same-length-2 c = search needs
 
--- src/frame.rt:75:1
 returns : tie.Need-returns
-returns c = ?
+returns c =
+    let says = c .before .before in
+    let asked = says .before .before .before .before .before in
+    let count = asked .before .before .before in
+    let start = count .before .before .before .before .before in
+    text-closed (firstIn (start .args .run)) (start .pre .0) (now (start .args .table)) (now (start .args .text)) _
+    (start .pre .1 .0) refl _ _ (count .before .shape-of .ensures) (count .homes .ensures) _ _ _ (asked .line .ensures)
+    _ _ _ (says .print-line .ensures)
 
 pub text-line-spec : {M : Type 1} → statement M
 text-line-spec =

@@ -1,49 +1,43 @@
+-- `print_answers` meets its contract: digits, and a line feed behind them.
+-- Assumes nothing.
 use borrow.Author.Needs.{needs}
+use native.Mathlib.Omega.{arith}
+use Rattle.frames.specs.Printing.{answers-shown}
 use Rattle.frames.proofs.print.print_answers.Statement.{statement}
 use Rattle.frames.proofs.print.print_answers.Tie as tie
-use Rattle.frames.proofs.print.print_answers.Reads as reads
-use Rattle.frames.proofs.print.print_answers.Lts as lts
-use Rattle.digits.proofs.print.put_bytes.Reads as put-bytes-reads
 
--- src/print.rt:28:15
 sub-put-bytes : tie.Need-sub-put-bytes
 sub-put-bytes c = search needs
 
--- src/print.rt:28:15
 part-put-bytes-start : tie.Need-part-put-bytes-start
 part-put-bytes-start c = search needs
 
--- src/print.rt:28:15
 part-put-bytes-end : tie.Need-part-put-bytes-end
 part-put-bytes-end c = search needs
 
--- src/print.rt:28:5
 put-bytes-requires : tie.Need-put-bytes-requires
 put-bytes-requires c κs = search needs
 
--- src/print.rt:29:9
 mul-out : tie.Need-mul-out
 mul-out c = search needs
 
--- src/print.rt:29:5
 slice-write-out : tie.Need-slice-write-out
 slice-write-out c = search needs
 
--- src/print.rt:30:5
 mul-result : tie.Need-mul-result
 mul-result c = search needs
 
--- src/print.rt:30:5
 add-result : tie.Need-add-result
 add-result c = search needs
 
--- src/print.rt:24:1
 same-length : tie.Need-same-length
 same-length c = search needs
 
--- src/print.rt:24:1
 returns : tie.Need-returns
-returns c = ?
+returns c =
+    let put = c .before .before in
+    let start = put .before .before .before .before .before in
+    answers-shown _ _ _ _ (omega (arith, start .pre .0, start .good)) (start .pre .0) (start .pre .1) (put .put-bytes .ensures)
 
 pub print-answers-spec : {M : Type 1} → statement M
 print-answers-spec =
