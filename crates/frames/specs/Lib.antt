@@ -5,3 +5,4 @@ pub mod Closing
 pub mod Printing
 pub mod Limiting
 pub mod Framing
+pub mod Feeding

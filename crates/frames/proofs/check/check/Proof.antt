@@ -1,42 +1,33 @@
+-- `check` meets its contract, test by test.
+-- Assumes nothing.
 use borrow.Author.Needs.{needs}
+use Rattle.frames.specs.Check.{by-shape, by-table, by-tasks, by-line, by-out, by-none}
 use Rattle.frames.proofs.check.check.Statement.{statement}
 use Rattle.frames.proofs.check.check.Tie as tie
-use Rattle.frames.proofs.check.check.Reads as reads
-use Rattle.frames.proofs.check.check.Lts as lts
-use Rattle.frames.proofs.check.shape_fine.Reads as shape-fine-reads
-use Rattle.frames.proofs.check.tasks_fine.Reads as tasks-fine-reads
 
--- src/check.rt:54:8
 shape-fine-requires : tie.Need-shape-fine-requires
 shape-fine-requires c κs = search needs
 
--- src/check.rt:56:16
 tasks-fine-requires : tie.Need-tasks-fine-requires
 tasks-fine-requires c κs = search needs
 
--- src/check.rt:59:25
 returns : tie.Need-returns
-returns c = ?
+returns c = search (needs, by-none)
 
--- src/check.rt:62:17
 returns-2 : tie.Need-returns-2
-returns-2 c = ?
+returns-2 c = search (needs, by-out)
 
--- src/check.rt:62:17
 returns-3 : tie.Need-returns-3
-returns-3 c = ?
+returns-3 c = search (needs, by-line)
 
--- src/check.rt:64:13
 returns-4 : tie.Need-returns-4
-returns-4 c = ?
+returns-4 c = search (needs, by-tasks)
 
--- src/check.rt:51:1
 returns-5 : tie.Need-returns-5
-returns-5 c = ?
+returns-5 c = search (needs, by-table)
 
--- src/check.rt:51:1
 returns-6 : tie.Need-returns-6
-returns-6 c = ?
+returns-6 c = search (needs, by-shape)
 
 pub check-spec : {M : Type 1} → statement M
 check-spec =

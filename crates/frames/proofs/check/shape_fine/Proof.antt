@@ -1,48 +1,51 @@
+-- `shape_fine` meets its contract, by the run's stage and test by test.
+-- Assumes nothing.
 use borrow.Author.Needs.{needs}
+use Rattle.frames.specs.Check.{shape-in, shape-low-r, shape-high-r, shape-low-m, shape-high-m}
 use Rattle.frames.proofs.check.shape_fine.Statement.{statement}
 use Rattle.frames.proofs.check.shape_fine.Tie as tie
-use Rattle.frames.proofs.check.shape_fine.Reads as reads
-use Rattle.frames.proofs.check.shape_fine.Lts as lts
 
--- src/check.rt:22:27
 enum-told : tie.Need-enum-told
 enum-told c = search needs
 
--- src/check.rt:23:25
 enum-told-2 : tie.Need-enum-told-2
 enum-told-2 c = search needs
 
--- src/check.rt:24:25
 enum-told-3 : tie.Need-enum-told-3
 enum-told-3 c = search needs
 
--- src/check.rt:15:1
 returns : tie.Need-returns
 returns c = search needs
 
--- src/check.rt:15:1
 returns-2 : tie.Need-returns-2
 returns-2 c = search needs
 
--- src/check.rt:15:1
 returns-3 : tie.Need-returns-3
-returns-3 c = ?
+returns-3 c =
+    let among = c .before .before .before .before in
+    shape-in _ _ _ (among .enum-told3 .given .1) (c .before .before .before .if1 .left) (c .before .before .if2 .taken)
+    (c .before .if3 .left) (c .if4 .taken)
 
--- src/check.rt:15:1
 returns-4 : tie.Need-returns-4
-returns-4 c = ?
+returns-4 c =
+    let among = c .before .before .before in
+    shape-low-r _ _ _ (among .enum-told3 .given .1) (c .before .before .if1 .left) (c .before .if2 .taken) (c .if3 .taken)
 
--- src/check.rt:15:1
 returns-5 : tie.Need-returns-5
-returns-5 c = ?
+returns-5 c =
+    let among = c .before .before .before .before in
+    shape-high-r _ _ _ (among .enum-told3 .given .1) (c .before .before .before .if1 .left) (c .before .before .if2 .taken)
+    (c .before .if3 .left) (c .if4 .left)
 
--- src/check.rt:15:1
 returns-6 : tie.Need-returns-6
-returns-6 c = ?
+returns-6 c =
+    let among = c .before in
+    shape-low-m _ _ (c .before .before .before .args .run .r) (among .enum-told3 .given .1) (c .if1 .taken)
 
--- src/check.rt:15:1
 returns-7 : tie.Need-returns-7
-returns-7 c = ?
+returns-7 c =
+    let among = c .before .before in
+    shape-high-m _ _ (c .before .before .before .before .args .run .r) (among .enum-told3 .given .1) (c .before .if1 .left) (c .if2 .left)
 
 pub shape-fine-spec : {M : Type 1} → statement M
 shape-fine-spec =

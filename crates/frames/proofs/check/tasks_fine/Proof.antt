@@ -1,40 +1,33 @@
+-- `tasks_fine` meets its contract, by the run's stage and test by test.
+-- Assumes nothing.
 use borrow.Author.Needs.{needs}
+use Rattle.frames.specs.Check.{tasks-in, tasks-low, tasks-high}
 use Rattle.frames.proofs.check.tasks_fine.Statement.{statement}
 use Rattle.frames.proofs.check.tasks_fine.Tie as tie
-use Rattle.frames.proofs.check.tasks_fine.Reads as reads
-use Rattle.frames.proofs.check.tasks_fine.Lts as lts
 
--- src/check.rt:41:27
 enum-told : tie.Need-enum-told
 enum-told c = search needs
 
--- src/check.rt:42:25
 enum-told-2 : tie.Need-enum-told-2
 enum-told-2 c = search needs
 
--- src/check.rt:43:25
 enum-told-3 : tie.Need-enum-told-3
 enum-told-3 c = search needs
 
--- src/check.rt:35:1
 returns : tie.Need-returns
 returns c = search needs
 
--- src/check.rt:35:1
 returns-2 : tie.Need-returns-2
 returns-2 c = search needs
 
--- src/check.rt:35:1
 returns-3 : tie.Need-returns-3
-returns-3 c = ?
+returns-3 c = tasks-in _ _ (c .before .before .enum-told3 .given .1) (c .before .if1 .left) (c .if2 .taken)
 
--- src/check.rt:35:1
 returns-4 : tie.Need-returns-4
-returns-4 c = ?
+returns-4 c = tasks-low _ _ (c .before .enum-told3 .given .1) (c .if1 .taken)
 
--- src/check.rt:35:1
 returns-5 : tie.Need-returns-5
-returns-5 c = ?
+returns-5 c = tasks-high _ _ (c .before .before .enum-told3 .given .1) (c .before .if1 .left) (c .if2 .left)
 
 pub tasks-fine-spec : {M : Type 1} → statement M
 tasks-fine-spec =

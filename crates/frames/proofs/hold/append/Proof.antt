@@ -1,49 +1,44 @@
+-- `append` meets its contract. The invariant is `Copied`; the measure, how many bytes are still to be copied.
+-- Assumes nothing.
+use borrow.Author.Needs.{needs}
+use Prim.Native.Nat.{_-_}
+use lib.ListN.{length}
+use Rattle.frames.specs.Hold.{Copied, copied-none, copied-more, copied-all}
 use Rattle.frames.proofs.hold.append.Statement.{statement}
 use Rattle.frames.proofs.hold.append.Tie as tie
-use Rattle.frames.proofs.hold.append.Reads as reads
-use Rattle.frames.proofs.hold.append.Lts as lts
 
 abbrev Inv-loop : tie.InvT-loop
-Inv-loop line₀ held more i₀ line i = ?
+Inv-loop line₀ held more i₀ line i = Copied line₀ held more i line
 
 abbrev μ-loop : tie.MeasureT-loop
-μ-loop line₀ held more i₀ line i = ?
+μ-loop line₀ held more i₀ line i = length more - i
 
--- src/hold.rt:17:5
 loop-holds : tie.Need-loop-holds Inv-loop μ-loop
-loop-holds c = ?
+loop-holds c = search (needs, copied-none)
 
--- src/hold.rt:18:26
 shared-slice-read-line : tie.Need-shared-slice-read-line Inv-loop μ-loop
-shared-slice-read-line c = ?
+shared-slice-read-line c = search needs
 
--- src/hold.rt:18:14
 add-line : tie.Need-add-line Inv-loop μ-loop
-add-line c = ?
+add-line c = search needs
 
--- src/hold.rt:18:9
 slice-write-line : tie.Need-slice-write-line Inv-loop μ-loop
-slice-write-line c = ?
+slice-write-line c = search needs
 
--- src/hold.rt:19:9
 add-i : tie.Need-add-i Inv-loop μ-loop
-add-i c = ?
+add-i c = search needs
 
--- src/hold.rt:17:5
 loop-less : tie.Need-loop-less Inv-loop μ-loop
-loop-less c = ?
+loop-less c = search needs
 
--- src/hold.rt:17:5
 loop-again : tie.Need-loop-again Inv-loop μ-loop
-loop-again c = ?
+loop-again c = search (needs, copied-more)
 
--- src/hold.rt:10:1
 same-length : tie.Need-same-length Inv-loop μ-loop
-same-length c = ?
+same-length c = search needs
 
--- src/hold.rt:10:1
 returns : tie.Need-returns Inv-loop μ-loop
-returns c = ?
+returns c = search (needs, copied-all)
 
 pub append-spec : {M : Type 1} → statement M
 append-spec =
