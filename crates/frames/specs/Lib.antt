@@ -2,3 +2,4 @@
 pub mod Check
 pub mod Hold
 pub mod Closing
+pub mod Finishing
