@@ -96,8 +96,8 @@ module _ (run : Run) (table : List ℕ) where
         unfolding dayOf
         end-inside = omega (arith, end-few, fit .table)
 
-        pub end-part : length (take (2 * (n + 2) - 0) table) ≡ 2 * (n + 2)
-        end-part = length-take-le (2 * (n + 2) - 0) table (omega (arith, end-inside)) ∙ omega arith
+        pub end-part : (k : ℕ) → k ≤ n + 2 → length (take (2 * k - 0) table) ≡ 2 * k
+        end-part k few = length-take-le (2 * k - 0) table (omega (arith, end-inside)) ∙ omega arith
 
         pub end-among :
             (k : ℕ) (out out₁ : List ℕ) →
@@ -217,40 +217,40 @@ module _ (run : Run) (b : Lent) (ok : Ready run b) where
     pub finish-fits : Fit (dayOf (c .run) table)
     finish-fits = subst Fit (sym (left .day)) (left .fit)
 
-    part-size : length (take (length out - c .wrote) (drop (c .wrote) out)) ≡ length out - c .wrote
-    part-size =
-        let rest = length-drop (c .wrote) out in
-        length-take-le (length out - c .wrote) (drop (c .wrote) out) (omega arith)
+    -- wherever the lent part begins in what was printed
+    pub finish-room : (k : ℕ) → k ≤ c .wrote → 65545 ≤ length (take (length out - k) (drop k out))
+    finish-room k inside =
+        let rest = length-drop k out in
+        let size = length-take-le (length out - k) (drop k out) (omega arith) in
+        omega (arith, size, room .0, room .1)
 
-    pub finish-room : 65545 ≤ length (take (length out - c .wrote) (drop (c .wrote) out))
-    finish-room = omega (arith, part-size, room .0, room .1)
+    pub finish-wrote :
+        (more : ℕ) (part part₁ : List ℕ) → shown more part₁ ≡ printing (atEnd (dayOf (c .run) table)) part →
+        c .wrote + more ≤ 66570
+    finish-wrote more part part₁ end =
+        let count = ap (λ (x : Shown). x .wrote) end in
+        omega (arith, count, room .0, end-prints (dayOf (c .run) table) finish-fits)
 
-    module _ (more : ℕ) (part : List ℕ)
-        (end : shown more part
-        ≡ printing (atEnd (dayOf (c .run) table)) (take (length out - c .wrote) (drop (c .wrote) out)))
-      where
-        pub finish-wrote : c .wrote + more ≤ 66570
-        finish-wrote =
-            let count = ap (λ (x : Shown). x .wrote) end in
-            omega (arith, count, room .0, end-prints (dayOf (c .run) table) finish-fits)
-
-        pub finish-both :
-            finishes (c .wrote + more) (lent (b .line) table (putMid (c .wrote) (length out - c .wrote) out part))
-            ≡ finishGood b (lastLine run b)
-        unfolding finishGood
-        finish-both =
-            let l = left in
-            let a = lastLine run b in
-            rw (
-              ap (λ (x : Shown). x .wrote) end,
-              ap (λ (x : Shown). x .out) end,
-              l .day,
-              l .table,
-              l .out,
-              l .wrote,
-              two-texts (a .prints) (atEnd (a .day)) (b .out) (length (a .prints)) refl,
-              length-append (a .prints) (atEnd (a .day)),
-            )
+    pub finish-both :
+        (more : ℕ) (part : List ℕ) →
+        shown more part
+        ≡ printing (atEnd (dayOf (c .run) table)) (take (length out - c .wrote) (drop (c .wrote) out)) →
+        finishes (c .wrote + more) (lent (b .line) table (putMid (c .wrote) (length out - c .wrote) out part))
+        ≡ finishGood b (lastLine run b)
+    unfolding finishGood
+    finish-both more part end =
+        let l = left in
+        let a = lastLine run b in
+        rw (
+          ap (λ (x : Shown). x .wrote) end,
+          ap (λ (x : Shown). x .out) end,
+          l .day,
+          l .table,
+          l .out,
+          l .wrote,
+          two-texts (a .prints) (atEnd (a .day)) (b .out) (length (a .prints)) refl,
+          length-append (a .prints) (atEnd (a .day)),
+        )
 
 -- ---- the call by its test
 some-refusal : (n : Refusal) → numberOfRefusal n ≡ 0 → ⊥

@@ -42,7 +42,7 @@ part-print-table-end : tie.Need-part-print-table-end
 part-print-table-end c =
     let start = c .before .before .before .before .before .before in
     let told = c .before .before .enum-told2 .given .1 in
-    end-inside _ _ (start .pre .0) told _ (c .before .shape-of .ensures) _ (c .homes .ensures)
+    omega (arith, end-inside _ _ (start .pre .0) told _ (c .before .shape-of .ensures) _ (c .homes .ensures))
 
 print-table-requires : tie.Need-print-table-requires
 print-table-requires c κs =
@@ -51,8 +51,8 @@ print-table-requires c κs =
     let told = count .before .before .enum-told2 .given .1 in
     let shape = count .before .shape-of .ensures in
     let few = end-few _ _ (start .pre .0) told _ shape _ (count .homes .ensures) in (
-      end-part _ _ (start .pre .0) told _ shape _ (count .homes .ensures),
-      (omega (arith, few, start .pre .1), few),
+      end-part _ _ (start .pre .0) told _ shape _ (count .homes .ensures) _ (omega arith),
+      (omega (arith, few, start .pre .1), omega (arith, few)),
     )
 
 enum-told-3 : tie.Need-enum-told-3

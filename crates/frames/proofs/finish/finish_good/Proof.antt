@@ -13,13 +13,13 @@ sub-end : tie.Need-sub-end
 sub-end c =
     let last = c .before .before .before .before .before in
     let start = last .before .before .before .before .before .before in
-    finish-inside _ _ (start .pre) _ _ _ (last .last-line .ensures)
+    omega (arith, finish-inside _ _ (start .pre) _ _ _ (last .last-line .ensures))
 
 part-end-start : tie.Need-part-end-start
 part-end-start c =
     let last = c .before .before .before .before .before in
     let start = last .before .before .before .before .before .before in
-    finish-inside _ _ (start .pre) _ _ _ (last .last-line .ensures)
+    omega (arith, finish-inside _ _ (start .pre) _ _ _ (last .last-line .ensures))
 
 part-end-end : tie.Need-part-end-end
 part-end-end c = search needs
@@ -29,7 +29,7 @@ end-requires c κs =
     let last = c .before .before .before .before .before .before in
     let start = last .before .before .before .before .before .before in (
       finish-fits _ _ (start .pre) _ _ _ (last .last-line .ensures),
-      finish-room _ _ (start .pre) _ _ _ (last .last-line .ensures),
+      finish-room _ _ (start .pre) _ _ _ (last .last-line .ensures) _ (omega arith),
     )
 
 add-t15 : tie.Need-add-t15
@@ -37,7 +37,7 @@ add-t15 c =
     let end = c .before .before in
     let last = end .before .before .before .before .before .before .before in
     let start = last .before .before .before .before .before .before in
-    omega (arith, finish-wrote _ _ (start .pre) _ _ _ (last .last-line .ensures) _ _ (end .end .ensures))
+    omega (arith, finish-wrote _ _ (start .pre) _ _ _ (last .last-line .ensures) _ _ _ (end .end .ensures))
 
 same-length : tie.Need-same-length
 same-length c = search needs
