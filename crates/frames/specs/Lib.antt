@@ -6,3 +6,4 @@ pub mod Printing
 pub mod Limiting
 pub mod Framing
 pub mod Feeding
+pub mod Finishing

@@ -1,42 +1,39 @@
+-- `finish` meets its contract: all is ready, or the call is refused.
+-- Assumes nothing.
 use borrow.Author.Needs.{needs}
+use Rattle.frames.specs.Finishing.{call-ready, call-accepted, call-refused}
 use Rattle.frames.proofs.finish.finish.Statement.{statement}
 use Rattle.frames.proofs.finish.finish.Tie as tie
-use Rattle.frames.proofs.finish.finish.Reads as reads
-use Rattle.frames.proofs.finish.finish.Lts as lts
-use Rattle.frames.proofs.check.check.Reads as check-reads
-use Rattle.frames.proofs.finish.finish_good.Reads as finish-good-reads
 
--- src/finish.rt:46:9
 check-requires : tie.Need-check-requires
 check-requires c κs = search needs
 
--- src/finish.rt:48:50
 enum-told : tie.Need-enum-told
 enum-told c = search needs
 
--- src/finish.rt:48:27
 finish-good-requires : tie.Need-finish-good-requires
-finish-good-requires c κs = ?
+finish-good-requires c κs =
+    let told = c .before .before in
+    call-ready _ _ _ _ _ (told .before .before .check .ensures) (told .enum-told .given .1)
 
--- src/finish.rt:49:23
 enum-known-fine : tie.Need-enum-known-fine
 enum-known-fine c = search needs
 
--- src/finish.rt:42:1
 same-length : tie.Need-same-length
 same-length c = search needs
 
--- src/finish.rt:42:1
 same-length-2 : tie.Need-same-length-2
 same-length-2 c = search needs
 
--- src/finish.rt:42:1
 returns : tie.Need-returns
-returns c = ?
+returns c =
+    let done = c .before .before .before .before in
+    let told = done .before .before .before in
+    call-accepted _ _ _ _ _ (told .before .before .check .ensures) (told .enum-told .given .1)
+    _ (done .finish-good .ensures)
 
--- src/finish.rt:42:1
 returns-2 : tie.Need-returns-2
-returns-2 c = ?
+returns-2 c = call-refused _ _ _ _ _ (c .before .before .before .check .ensures) _ (c .before .fine .given .1)
 
 pub finish-spec : {M : Type 1} → statement M
 finish-spec =

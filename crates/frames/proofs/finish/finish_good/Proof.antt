@@ -1,46 +1,56 @@
+-- `finish_good` meets its contract: the table's line stands behind what the last line printed.
+-- Assumes nothing.
 use borrow.Author.Needs.{needs}
+use native.Mathlib.Omega.{arith}
+use Rattle.frames.specs.Finishing.{finish-inside, finish-fits, finish-room, finish-wrote, finish-both}
 use Rattle.frames.proofs.finish.finish_good.Statement.{statement}
 use Rattle.frames.proofs.finish.finish_good.Tie as tie
-use Rattle.frames.proofs.finish.finish_good.Reads as reads
-use Rattle.frames.proofs.finish.finish_good.Lts as lts
-use Rattle.frames.proofs.close.end.Reads as end-reads
-use Rattle.frames.proofs.finish.last_line.Reads as last-line-reads
 
--- src/finish.rt:36:9
 last-line-requires : tie.Need-last-line-requires
 last-line-requires c κs = search needs
 
--- src/finish.rt:38:34
 sub-end : tie.Need-sub-end
-sub-end c = ?
+sub-end c =
+    let last = c .before .before .before .before .before in
+    let start = last .before .before .before .before .before .before in
+    omega (arith, finish-inside _ _ (start .pre) _ _ _ (last .last-line .ensures))
 
--- src/finish.rt:38:34
 part-end-start : tie.Need-part-end-start
-part-end-start c = ?
+part-end-start c =
+    let last = c .before .before .before .before .before in
+    let start = last .before .before .before .before .before .before in
+    omega (arith, finish-inside _ _ (start .pre) _ _ _ (last .last-line .ensures))
 
--- src/finish.rt:38:34
 part-end-end : tie.Need-part-end-end
 part-end-end c = search needs
 
--- src/finish.rt:38:9
 end-requires : tie.Need-end-requires
-end-requires c κs = ?
+end-requires c κs =
+    let last = c .before .before .before .before .before .before in
+    let start = last .before .before .before .before .before .before in (
+      finish-fits _ _ (start .pre) _ _ _ (last .last-line .ensures),
+      finish-room _ _ (start .pre) _ _ _ (last .last-line .ensures) _ (omega arith),
+    )
 
--- src/finish.rt:39:25
 add-t15 : tie.Need-add-t15
-add-t15 c = ?
+add-t15 c =
+    let end = c .before .before in
+    let last = end .before .before .before .before .before .before .before in
+    let start = last .before .before .before .before .before .before in
+    omega (arith, finish-wrote _ _ (start .pre) _ _ _ (last .last-line .ensures) _ _ _ (end .end .ensures))
 
--- src/finish.rt:30:1
 same-length : tie.Need-same-length
 same-length c = search needs
 
--- src/finish.rt:30:1
 same-length-2 : tie.Need-same-length-2
 same-length-2 c = search needs
 
--- src/finish.rt:30:1
 returns : tie.Need-returns
-returns c = ?
+returns c =
+    let end = c .before .before in
+    let last = end .before .before .before .before .before .before .before in
+    let start = last .before .before .before .before .before .before in
+    finish-both _ _ (start .pre) _ _ _ (last .last-line .ensures) _ _ (end .end .ensures)
 
 pub finish-good-spec : {M : Type 1} → statement M
 finish-good-spec =

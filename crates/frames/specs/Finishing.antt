@@ -1,0 +1,291 @@
+-- The end of the input. `table-printed`: the table's line; `end-..`: what each stage prints; `last-..`: a last line that
+-- lacks its line feed; `finish-..`: the room behind it, and both as one text; `call-..`: the call by its test.
+-- Assumes nothing.
+use Prim.Native.Nat.{ℕ, suc, _+_, _*_, _-_, _≤_, _<_}
+use mathlib.Core.Path.{_≡_, refl, sym, ap, _∙_, subst}
+use mathlib.Core.Bool.{Bool, true, false, cond}
+use mathlib.Core.List.{List, [], _∷_, _++_, append-assoc, append-nil}
+use native.Mathlib.Numerals.{add-one}
+use native.Mathlib.Omega.{arith}
+use lib.ListN.{length, take, drop, set, getD, length-append, length-drop}
+use lib.Seq.{length-take-le, take-all, take-at, drop-at, drop-cons, drop-length, drop-drop, append-snoc, set-at}
+use lib.Dec.{eqb}
+use borrow.Author.Tests.{eq-eqb, ne-eqb}
+use borrow.Rule.Slice.PartMut.{putMid}
+use Rattle.rules.specs.declared.Shape.{Shape}
+use Rattle.rules.specs.declared.Refusal.{Refusal}
+use Rattle.rules.specs.declared.Refusal.the-variants.{BadShape, BadKey, BadTask, Busy, AtRest, Unsound, Locked}
+use Rattle.rules.specs.declared.Refusal.the-variants.{Full, TooFewSlots}
+use Rattle.rules.specs.declared.Done.{Done}
+use Rattle.rules.specs.declared.Done.the-variants as done
+use Rattle.rules.specs.Answer.{numberOfRefusal, doneSays}
+use Rattle.rules.specs.Shape.{shapeOf, homes, places}
+use Rattle.words.specs.Range.{InRange}
+use Rattle.digits.specs.Print.{words-length}
+use Rattle.format.specs.declared.Run.{Run}
+use Rattle.format.specs.declared.Stage.{Stage}
+use Rattle.format.specs.declared.Stage.the-variants.{AtFirst, Among, Ended}
+use Rattle.format.specs.Digits.{wordDigits}
+use Rattle.format.specs.Lines.{inLimits}
+use Rattle.format.specs.Frame as frame
+use Rattle.format.specs.Frame.{atFirst, among, ended, Day, After, used, printed, error, lineIn, atEnd}
+use Rattle.format.specs.Feed.{Lent, lent, firstIn, stageOf, runOf, dayOf, heldLine, atFront, refusal}
+use Rattle.format.specs.Feed.{Finishing, finishes, refusedToo, lastLine, finishGood, finish}
+use Rattle.pieces.specs.Limits.{inStage, Fit, limits, used-fits, line-fits, line-prints, end-prints}
+use Rattle.pieces.specs.Feeding.{Ready, accepted}
+use Rattle.frames.specs.declared.close.Closed.{Closed}
+use Rattle.frames.specs.Check.{refusalBy, refusal-by}
+use Rattle.frames.specs.Closing.{Shown, shown, printing, Closing, closed, closing, lastClosing}
+
+-- ---- the table's line
+-- a line feed stored behind a text at the front
+feed-stored :
+    (text out : List ℕ) (n : ℕ) → length text ≡ n → n < length out →
+    shown (n + 1) (set (text ++ drop n out) n 10) ≡ printing (printed text) out
+feed-stored text out n long room =
+    rw (
+      length-append text (10 ∷ []),
+      long,
+      drop-cons out n 0 room,
+      set-at text (getD out n 0) (drop (suc n) out) 10 n long,
+      add-one n,
+    )
+    (ap (shown (suc n)) (sym (append-snoc text 10 (drop (suc n) out))))
+
+pub table-printed :
+    (n : ℕ) (table out out₁ : List ℕ) → length table ≡ 2 * n → 4 * n + 1 ≤ length out →
+    out₁ ≡ wordDigits table ++ drop (length (wordDigits table)) out →
+    shown (4 * n + 1) (set out₁ (4 * n) 10) ≡ printing (printed (wordDigits table)) out
+table-printed n table out out₁ size room e =
+    let long : length (wordDigits table) ≡ 4 * n = omega (arith, words-length table) in
+    rw (e, long) (feed-stored (wordDigits table) out (4 * n) long (omega arith))
+
+-- ---- the end, by the run's stage
+module _ (run : Run) (table : List ℕ) where
+  pub end-at-first :
+      (n : ℕ) (out out₁ : List ℕ) → run .stage ≡ AtFirst → shown n out₁ ≡ printing error out →
+      shown n out₁ ≡ printing (atEnd (dayOf run table)) out
+  unfolding atEnd dayOf
+  end-at-first n out out₁ first e = rw first e
+
+  pub end-ended : (out : List ℕ) → run .stage ≡ Ended → shown 0 out ≡ printing (atEnd (dayOf run table)) out
+  unfolding atEnd dayOf
+  end-ended out over = rw over
+
+  module _ (fit : Fit (dayOf run table)) (frames : run .stage ≡ Among) where
+    first-good : inLimits (firstIn run) ≡ true
+    unfolding dayOf
+    first-good = subst (λ (s : Stage). inStage (stageOf s (firstIn run))) frames (fit .stage)
+
+    module _ (sh : Shape) (shape : sh ≡ shapeOf (run .m) (run .r)) where
+      pub end-range : InRange sh
+      end-range =
+          let l = limits (firstIn run) first-good in
+          subst InRange (sym shape)
+          (record { m-low = l .m-low; m-high = omega (arith, l .m-high); r-low = l .r-low; r-high = l .r-high })
+
+      module _ (n : ℕ) (count : n ≡ homes sh) where
+        used-is : 2 * (n + 2) ≡ used (firstIn run)
+        unfolding used places
+        used-is = rw (count, shape)
+
+        pub end-few : n + 2 ≤ 16386
+        end-few = omega (arith, used-is, used-fits (firstIn run) first-good)
+
+        pub end-inside : 2 * (n + 2) ≤ length table
+        unfolding dayOf
+        end-inside = omega (arith, end-few, fit .table)
+
+        pub end-part : (k : ℕ) → k ≤ n + 2 → length (take (2 * k - 0) table) ≡ 2 * k
+        end-part k few = length-take-le (2 * k - 0) table (omega (arith, end-inside)) ∙ omega arith
+
+        pub end-among :
+            (k : ℕ) (out out₁ : List ℕ) →
+            shown k out₁ ≡ printing (printed (wordDigits (take (2 * (n + 2) - 0) table))) out →
+            shown k out₁ ≡ printing (atEnd (dayOf run table)) out
+        unfolding atEnd dayOf
+        end-among k out out₁ e =
+            let same : 2 * (n + 2) - 0 ≡ used (firstIn run) = omega (arith, used-is) in
+            rw frames (rw (sym same) e)
+
+-- ---- a last line that lacks its line feed
+pub last-none :
+    (run : Run) (line table out : List ℕ) → run .held ≡ 0 →
+    closed (record { run = run; wrote = 0 }) table out ≡ lastClosing run (lent line table out)
+unfolding lastClosing
+last-none run line table out none = rw (eq-eqb (run .held) 0 none)
+
+pub last-held :
+    (run : Run) (b : Lent) (c : Closed) (table out : List ℕ) → (run .held ≡ 0 → ⊥) →
+    closed c table out ≡ closing (lineIn (dayOf run (b .table)) (heldLine (run .held) (b .line))) (b .out) →
+    closed c table out ≡ lastClosing run b
+unfolding lastClosing
+last-held run b c table out some e = rw (ne-eqb (run .held) 0 some) e
+
+-- what is left, beside what Feed says of that line
+record Last (x : Closing) (a : After) (was : List ℕ) : Type 0 where
+  pub day : dayOf (x .run) (x .table) ≡ a .day
+  pub table : x .table ≡ a .day .table
+  pub wrote : x .wrote ≡ length (a .prints)
+  pub out : x .out ≡ atFront (a .prints) was
+  pub fit : Fit (a .day)
+  pub few : length (a .prints) ≤ 1025
+
+run-day : (d : Day) → dayOf (runOf (d .stage)) (d .table) ≡ d
+unfolding dayOf
+run-day d = go (d .stage) (d .table)
+  where
+    go : (s : frame.Stage) (table : List ℕ) → dayOf (runOf s) table ≡ record { stage = s; table = table }
+    go atFirst table = refl
+    go (among f) table = refl
+    go ended table = refl
+
+-- a text behind another, in the room that is left
+two-texts :
+    (a t out : List ℕ) (n : ℕ) → length a ≡ n →
+    putMid n
+    (length (a ++ drop n out) - n)
+    (a ++ drop n out)
+    (atFront t (take (length (a ++ drop n out) - n) (drop n (a ++ drop n out))))
+    ≡ atFront (a ++ t) out
+two-texts a t out n long =
+    rw (
+      take-at a (drop n out) n long,
+      drop-at a (drop n out) n long,
+      take-all (length (a ++ drop n out) - n) (drop n out) (omega (arith, length-append a (drop n out))),
+      nothing-behind,
+      append-nil (t ++ drop (length t) (drop n out)),
+      drop-drop (length t) n out,
+      length-append a t,
+      long,
+    )
+    (sym (append-assoc a t (drop (n + length t) out)))
+  where
+    nothing-behind : drop (length (a ++ drop n out) - n) (drop n out) ≡ []
+    nothing-behind =
+        let size : length (a ++ drop n out) - n ≡ length (drop n out) =
+        omega (arith, length-append a (drop n out)) in
+        ap (λ (k : ℕ). drop k (drop n out)) size ∙ drop-length (drop n out)
+
+module _ (run : Run) (b : Lent) (ok : Ready run b) where
+  abbrev day : Day
+  day = dayOf run (b .table)
+
+  abbrev text : List ℕ
+  text = heldLine (run .held) (b .line)
+
+  last-is : Last (lastClosing run b) (lastLine run b) (b .out)
+  unfolding lastClosing lastLine dayOf
+  last-is = go (eqb (run .held) 0)
+    where
+      go :
+          (none : Bool) →
+          Last
+          (cond none
+          (record { run = run; wrote = 0; table = b .table; out = b .out })
+          (closing (lineIn day text) (b .out)))
+          (cond none (record { day = day; prints = [] }) (lineIn day text))
+          (b .out)
+      go true = record { day = refl; table = refl; wrote = refl; out = refl; fit = ok .day; few = omega arith }
+      go false =
+          record {
+            day = run-day (lineIn day text .day);
+            table = refl;
+            wrote = refl;
+            out = refl;
+            fit = line-fits day text (ok .day);
+            few = line-prints day text;
+          }
+
+  -- ---- the table's line goes into the room behind
+  module _ (c : Closed) (table out : List ℕ) (e : closed c table out ≡ lastClosing run b) where
+    left : Last (closed c table out) (lastLine run b) (b .out)
+    left = subst (λ (x : Closing). Last x (lastLine run b) (b .out)) (sym e) last-is
+
+    room : (c .wrote ≤ 1025) × (66570 ≤ length out)
+    room =
+        let l = left in
+        let prints = lastLine run b .prints in
+        let whole = length-append prints (drop (length prints) (b .out)) in
+        let rest = length-drop (length prints) (b .out) in
+        let same = ap (λ (xs : List ℕ). length xs) (l .out) in
+        (omega (arith, l .wrote, l .few), omega (arith, same, whole, rest, ok .out))
+
+    pub finish-inside : c .wrote ≤ length out
+    finish-inside = omega (arith, room .0, room .1)
+
+    pub finish-fits : Fit (dayOf (c .run) table)
+    finish-fits = subst Fit (sym (left .day)) (left .fit)
+
+    -- wherever the lent part begins in what was printed
+    pub finish-room : (k : ℕ) → k ≤ c .wrote → 65545 ≤ length (take (length out - k) (drop k out))
+    finish-room k inside =
+        let rest = length-drop k out in
+        let size = length-take-le (length out - k) (drop k out) (omega arith) in
+        omega (arith, size, room .0, room .1)
+
+    pub finish-wrote :
+        (more : ℕ) (part part₁ : List ℕ) → shown more part₁ ≡ printing (atEnd (dayOf (c .run) table)) part →
+        c .wrote + more ≤ 66570
+    finish-wrote more part part₁ end =
+        let count = ap (λ (x : Shown). x .wrote) end in
+        omega (arith, count, room .0, end-prints (dayOf (c .run) table) finish-fits)
+
+    pub finish-both :
+        (more : ℕ) (part : List ℕ) →
+        shown more part
+        ≡ printing (atEnd (dayOf (c .run) table)) (take (length out - c .wrote) (drop (c .wrote) out)) →
+        finishes (c .wrote + more) (lent (b .line) table (putMid (c .wrote) (length out - c .wrote) out part))
+        ≡ finishGood b (lastLine run b)
+    unfolding finishGood
+    finish-both more part end =
+        let l = left in
+        let a = lastLine run b in
+        rw (
+          ap (λ (x : Shown). x .wrote) end,
+          ap (λ (x : Shown). x .out) end,
+          l .day,
+          l .table,
+          l .out,
+          l .wrote,
+          two-texts (a .prints) (atEnd (a .day)) (b .out) (length (a .prints)) refl,
+          length-append (a .prints) (atEnd (a .day)),
+        )
+
+-- ---- the call by its test
+some-refusal : (n : Refusal) → numberOfRefusal n ≡ 0 → ⊥
+some-refusal BadShape e = omega arith
+some-refusal BadKey e = omega arith
+some-refusal BadTask e = omega arith
+some-refusal Busy e = omega arith
+some-refusal AtRest e = omega arith
+some-refusal Unsound e = omega arith
+some-refusal Locked e = omega arith
+some-refusal Full e = omega arith
+some-refusal TooFewSlots e = omega arith
+
+module _ (run : Run) (line table out : List ℕ) (d : Done)
+    (tested : doneSays d .number ≡ refusalBy run (length line) (length table) (length out))
+  where
+    abbrev buffers : Lent
+    buffers = lent line table out
+
+    test-is : refusal run buffers ≡ doneSays d .number
+    test-is = sym (refusal-by run buffers) ∙ sym tested
+
+    not-refused : d ≡ done.Accepted → refusal run buffers ≡ 0
+    not-refused e = test-is ∙ ap (λ (x : Done). doneSays x .number) e
+
+    pub call-ready : d ≡ done.Accepted → Ready run buffers
+    call-ready e = accepted run buffers (not-refused e)
+
+    pub call-accepted :
+        d ≡ done.Accepted → (x : Finishing) → x ≡ finishGood buffers (lastLine run buffers) → x ≡ finish run buffers
+    unfolding finish
+    call-accepted e x same = rw (eq-eqb (refusal run buffers) 0 (not-refused e)) same
+
+    pub call-refused : (n : Refusal) → d ≡ done.Refused n → refusedToo (numberOfRefusal n) buffers ≡ finish run buffers
+    unfolding finish
+    call-refused n e =
+        let number : refusal run buffers ≡ numberOfRefusal n = test-is ∙ ap (λ (x : Done). doneSays x .number) e in
+        rw (number, ne-eqb (numberOfRefusal n) 0 (some-refusal n))
