@@ -1,5 +1,5 @@
--- Digits printed at the front of lent bytes. `low-glyph`, `high-glyph`; the lengths of what is printed; `two-more`, the
--- store of two digits behind a text at the front; then a byte more (`bytes-on`) and a word more (`words-on`).
+-- Digits printed at the front of lent bytes. How long they are; `two-more`, two digits stored behind what is printed;
+-- `Printing` and `Wording`, the invariants of bytes and of words printed one by one, each with its laws.
 -- Assumes nothing.
 use Prim.Native.Nat.{ℕ, zero, suc, _+_, _*_, _/_, _%_, _≤_, _<_}
 use mathlib.Core.Path.{_≡_, refl, sym, ap, ap₂, _∙_}
@@ -7,7 +7,7 @@ use mathlib.Core.List.{List, [], _∷_, _++_, append-assoc}
 use native.Mathlib.Numerals.{add-one}
 use native.Mathlib.Omega.{arith}
 use borrow.Author.Tests.{le-leb, lt-leb}
-use lib.ListN.{length, getD, set, take, drop, length-append, length-set, length-drop}
+use lib.ListN.{length, getD, set, take, drop, length-append, length-set}
 use lib.Seq.{take-suc, take-all, drop-cons, append-snoc, set-at, length-take-le}
 use Rattle.format.specs.Digits.{glyph, digitsOf, wordDigits}
 
@@ -47,7 +47,7 @@ one-more text out n a long room =
     rw (drop-cons out n 0 room, set-at text (getD out n 0) (drop (suc n) out) a n long, add-one n)
     (sym (append-snoc text a (drop (suc n) out)))
 
-pub two-more :
+two-more :
     (text out : List ℕ) (n a b : ℕ) →
     length text ≡ n →
     n + 1 < length out →
@@ -170,7 +170,8 @@ module _ (bytes out₀ : List ℕ) (room : 2 * length bytes ≤ length out₀) w
           size = rw (second, length-set, length-set, first, length-set, length-set) (p .size);
           printed =
               second
-              ∙ ap (λ (l : List ℕ). store l (4 * i + 2) low) (first ∙ ap (λ (l : List ℕ). store l (4 * i) high) (p .printed))
+              ∙ ap (λ (l : List ℕ). store l (4 * i + 2) low) first
+              ∙ ap (λ (l : List ℕ). store (store l (4 * i) high) (4 * i + 2) low) (p .printed)
               ∙ ap (λ (l : List ℕ). store l (4 * i + 2) low)
               (two-more text₀ out₀ (4 * i) (glyph (high / 16)) (glyph (high % 16)) written (omega arith))
               ∙ two-more text₁ out₀ (4 * i + 2) (glyph (low / 16)) (glyph (low % 16)) longer (omega arith)

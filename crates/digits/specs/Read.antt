@@ -1,9 +1,9 @@
--- Digits read. `digitOr` is what a byte is worth as a digit, 16 where it is none; then its laws for each range of the
--- code, `digits-to` of a text up to a place, and `Reading`, the invariant of a number read digit by digit.
+-- Digits read. `digitOr`: what a byte is worth as a digit, with a law for each range of the code; `all-on`, `all-stops`,
+-- `all-ends`: a test of a text from the left; `Reading`: the invariant of a number read digit by digit, with its laws.
 -- Assumes nothing.
 use Prim.Native.Nat.{ℕ, zero, suc, _+_, _*_, _-_, _^_, _≤_, _<_}
-use mathlib.Core.Path.{_≡_, refl, sym, ap, _∙_}
-use mathlib.Core.Bool.{Bool, true, false, cond, _&&_}
+use mathlib.Core.Path.{_≡_, refl, _∙_}
+use mathlib.Core.Bool.{Bool, true, false, cond}
 use mathlib.Core.List.{List, [], _∷_}
 use native.Mathlib.Numerals.{add-one}
 use native.Mathlib.Nat.{pow-zero, pow-suc, pow-le-pow-right, zero-lt-suc}

@@ -49,8 +49,10 @@ pub fn put_words(table: &[u8], out: &mut [u8])
 {
     let mut i = 0;
     while i < table.len() / 2 {
-        put_byte(out, 4 * i, table[2 * i + 1]);
-        put_byte(out, 4 * i + 2, table[2 * i]);
+        let low = table[2 * i];
+        let high = table[2 * i + 1];
+        put_byte(out, 4 * i, high);
+        put_byte(out, 4 * i + 2, low);
         i += 1;
     }
 }

@@ -2,7 +2,6 @@
 -- Assumes nothing.
 use Prim.Native.Nat.{_-_}
 use borrow.Author.Needs.{needs}
-use native.Mathlib.Omega.{arith}
 use lib.ListN.{length}
 use Rattle.digits.specs.Print.{Printing, printing-begins, printing-on, printing-ends}
 use Rattle.digits.proofs.print.put_bytes.Statement.{statement}

@@ -2,7 +2,6 @@
 -- Assumes nothing.
 use Prim.Native.Nat.{_-_, _/_}
 use borrow.Author.Needs.{needs}
-use native.Mathlib.Omega.{arith}
 use lib.ListN.{length}
 use Rattle.digits.specs.Print.{Wording, wording-begins, wording-on, wording-ends}
 use Rattle.digits.proofs.print.put_words.Statement.{statement}
@@ -17,32 +16,32 @@ abbrev μ-loop : tie.MeasureT-loop
 loop-holds : tie.Need-loop-holds Inv-loop μ-loop
 loop-holds c = wording-begins _ _ (c .before .before .pre)
 
+mul-low : tie.Need-mul-low Inv-loop μ-loop
+mul-low c = search needs
+
+shared-slice-read-low : tie.Need-shared-slice-read-low Inv-loop μ-loop
+shared-slice-read-low c = search needs
+
+mul-high : tie.Need-mul-high Inv-loop μ-loop
+mul-high c = search needs
+
+add-high : tie.Need-add-high Inv-loop μ-loop
+add-high c = search needs
+
+shared-slice-read-high : tie.Need-shared-slice-read-high Inv-loop μ-loop
+shared-slice-read-high c = search needs
+
 mul-put-byte : tie.Need-mul-put-byte Inv-loop μ-loop
 mul-put-byte c = search needs
+
+put-byte-requires : tie.Need-put-byte-requires Inv-loop μ-loop
+put-byte-requires c κs = search needs
 
 mul-put-byte-2 : tie.Need-mul-put-byte-2 Inv-loop μ-loop
 mul-put-byte-2 c = search needs
 
 add-put-byte : tie.Need-add-put-byte Inv-loop μ-loop
 add-put-byte c = search needs
-
-shared-slice-read-put-byte : tie.Need-shared-slice-read-put-byte Inv-loop μ-loop
-shared-slice-read-put-byte c = search needs
-
-put-byte-requires : tie.Need-put-byte-requires Inv-loop μ-loop
-put-byte-requires c κs = search needs
-
-mul-put-byte-3 : tie.Need-mul-put-byte-3 Inv-loop μ-loop
-mul-put-byte-3 c = search needs
-
-add-put-byte-2 : tie.Need-add-put-byte-2 Inv-loop μ-loop
-add-put-byte-2 c = search needs
-
-mul-put-byte-4 : tie.Need-mul-put-byte-4 Inv-loop μ-loop
-mul-put-byte-4 c = search needs
-
-shared-slice-read-put-byte-2 : tie.Need-shared-slice-read-put-byte-2 Inv-loop μ-loop
-shared-slice-read-put-byte-2 c = search needs
 
 put-byte-requires-2 : tie.Need-put-byte-requires-2 Inv-loop μ-loop
 put-byte-requires-2 c κs = search needs
@@ -56,8 +55,8 @@ loop-less c = search needs
 loop-again : tie.Need-loop-again Inv-loop μ-loop
 loop-again c =
     let low = c .before .before in
-    let high = low .before .before .before .before .before in
-    let turn = high .before .before .before in
+    let high = low .before .before .before .before in
+    let turn = high .before .before .before .before in
     let start = turn .before .before .before .before in
     wording-on _ _ (start .pre) (turn .before .loop .inv) (turn .loop-test .taken) _ _
     (high .put-byte .ensures)
@@ -76,15 +75,15 @@ put-words-spec =
     Inv-loop
     μ-loop
     loop-holds
+    mul-low
+    shared-slice-read-low
+    mul-high
+    add-high
+    shared-slice-read-high
     mul-put-byte
+    put-byte-requires
     mul-put-byte-2
     add-put-byte
-    shared-slice-read-put-byte
-    put-byte-requires
-    mul-put-byte-3
-    add-put-byte-2
-    mul-put-byte-4
-    shared-slice-read-put-byte-2
     put-byte-requires-2
     add-i
     loop-less

@@ -24,8 +24,11 @@ mul-k : tie.Need-mul-k Inv-loop μ-loop
 mul-k c =
     let start = c .before .before .before in
     let given = start .pre in
-    omega
-    (arith, number-fits (now (start .args .s)) _ _ (given .0) (given .1 .0) (given .1 .1) (c .before .loop .inv) (c .loop-test .taken))
+    omega (
+      arith,
+      number-fits (now (start .args .s)) _ _ (given .0) (given .1 .0) (given .1 .1)
+          (c .before .loop .inv) (c .loop-test .taken),
+    )
 
 add-digit : tie.Need-add-digit Inv-loop μ-loop
 add-digit c = search needs

@@ -1,0 +1,2 @@
+-- What holds of the state between two calls.
+pub mod Held
