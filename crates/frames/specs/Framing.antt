@@ -152,9 +152,9 @@ module _ (f : First) (within-limits : inLimits f ≡ true) where
               ap (onTable (part ++ drop (2 * (h + 2) - 0) table)) shown
               ∙ on-came a
               ∙ ap (λ (x : After). closing x out)
-                (ap (λ (k : ℕ). lineCame f a slots' (part ++ drop k table)) end-is
-                ∙ ap cameTo (e ∙ as-called)
-                ∙ came-is)
+              (ap (λ (k : ℕ). lineCame f a slots' (part ++ drop k table)) end-is
+              ∙ ap cameTo (e ∙ as-called)
+              ∙ came-is)
             where
               onTable : List ℕ → Closing → Closing
               onTable t x = record { run = x .run; wrote = x .wrote; table = t; out = x .out }

@@ -19,8 +19,7 @@ enum-told-2 c = search needs
 frame-line-requires : tie.Need-frame-line-requires
 frame-line-requires c κs =
     let start = c .before .before .before .before .before .before .before in
-    let day = start .pre .day in
-    (
+    let day = start .pre .day in (
       among-limits (start .args .run) (now (start .args .table)) day (c .before .before .enum-told2 .given .1),
       (day-size (start .args .run) (now (start .args .table)) day, (start .pre .line, omega (arith, start .pre .out))),
     )

@@ -22,8 +22,7 @@ number-requires-2 c κs =
 
 number-requires-3 : tie.Need-number-requires-3
 number-requires-3 c κs =
-    let start = c .before .before .before .before .before .before in
-    (
+    let start = c .before .before .before .before .before .before in (
       omega arith,
       (omega (arith, start .pre .0), sym (c .before .before .before .all-digits .ensures) ∙ c .before .before .if1 .taken),
     )

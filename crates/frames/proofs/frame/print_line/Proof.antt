@@ -42,8 +42,7 @@ enum-known-answer c = search needs
 print-answers-requires : tie.Need-print-answers-requires
 print-answers-requires c κs =
     let start = c .before .before .before .before .before in
-    let told = c .before .before .answer .given .1 in
-    (
+    let told = c .before .before .answer .given .1 in (
       leb-true _ 512 (ap (λ (a : LineAnswer). fewAnswers (lineSays a)) (sym told) ∙ start .pre .0),
       start .pre .1,
     )

@@ -47,8 +47,7 @@ print-line-requires : tie.Need-print-line-requires
 print-line-requires c κs =
     let asked = c .before .before .before .before in
     let count = asked .before .before .before in
-    let start = count .before .before .before .before .before in
-    (
+    let start = count .before .before .before .before .before in (
       few-came (firstIn (start .args .run)) (start .pre .0) (now (start .args .table)) (now (start .args .text)) _
           (start .pre .1 .0) refl _ _ (count .before .shape-of .ensures) (count .homes .ensures) _ _ _ (asked .line .ensures),
       start .pre .1 .1,
