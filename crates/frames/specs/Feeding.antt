@@ -1,5 +1,5 @@
--- Laws of feeding: the point in the piece and the line's end (`end-in-piece`, `point-below`); the bytes held, and then a
--- line or none (`fed-line`, `fed-on`); a call that is accepted or refused (`feed-..`). Assumes nothing.
+-- Laws of feeding: the point in the piece and the line's end (`end-in-piece`, `point-below`); the bytes held, and then
+-- a line or none (`fed-line`, `fed-on`); a call that is accepted or refused (`feed-..`). Assumes nothing.
 use Prim.Native.Nat.{ℕ, suc, _+_, _-_, _≤_, _<_, min}
 use mathlib.Core.Path.{_≡_, refl, sym, ap, _∙_}
 use mathlib.Core.Bool.{Bool, true, false}

@@ -24,7 +24,8 @@ fn append(line: &mut [u8], held: usize, more: &[u8])
 pub fn hold(line: &mut [u8], held: usize, more: &[u8]) -> usize
     requires { ⌜ 4096 ≤ length (now line) ⌝ }
     ensures { λ n. ⌜ holding n (now (line .exit))
-        ≡ holding (heldAfter held (length (now (more .entry)))) (lineAfter (now (line .entry)) held (now (more .entry))) ⌝ }
+        ≡ holding (heldAfter held (length (now (more .entry))))
+        (lineAfter (now (line .entry)) held (now (more .entry))) ⌝ }
 {
     if held <= 4096 {
         if more.len() <= 4096 - held {

@@ -22,30 +22,31 @@ returns-2 c = search needs
 
 returns-3 : tie.Need-returns-3
 returns-3 c =
-    let among = c .before .before .before .before in
-    shape-in _ _ _ (among .enum-told3 .given .1) (c .before .before .before .if1 .left) (c .before .before .if2 .taken)
-    (c .before .if3 .left) (c .if4 .taken)
+    let m = c .before .before in
+    let among = m .before .before .enum-told3 .given .1 in
+    shape-in _ _ _ among (m .before .if1 .left) (m .if2 .taken) (c .before .if3 .left) (c .if4 .taken)
 
 returns-4 : tie.Need-returns-4
 returns-4 c =
-    let among = c .before .before .before in
-    shape-low-r _ _ _ (among .enum-told3 .given .1) (c .before .before .if1 .left) (c .before .if2 .taken) (c .if3 .taken)
+    let m = c .before in
+    let among = m .before .before .enum-told3 .given .1 in
+    shape-low-r _ _ _ among (m .before .if1 .left) (m .if2 .taken) (c .if3 .taken)
 
 returns-5 : tie.Need-returns-5
 returns-5 c =
-    let among = c .before .before .before .before in
-    shape-high-r _ _ _ (among .enum-told3 .given .1) (c .before .before .before .if1 .left) (c .before .before .if2 .taken)
-    (c .before .if3 .left) (c .if4 .left)
+    let m = c .before .before in
+    let among = m .before .before .enum-told3 .given .1 in
+    shape-high-r _ _ _ among (m .before .if1 .left) (m .if2 .taken) (c .before .if3 .left) (c .if4 .left)
 
 returns-6 : tie.Need-returns-6
 returns-6 c =
-    let among = c .before in
-    shape-low-m _ _ (c .before .before .before .args .run .r) (among .enum-told3 .given .1) (c .if1 .taken)
+    let run = c .before .before .before .args .run in
+    shape-low-m _ _ (run .r) (c .before .enum-told3 .given .1) (c .if1 .taken)
 
 returns-7 : tie.Need-returns-7
 returns-7 c =
-    let among = c .before .before in
-    shape-high-m _ _ (c .before .before .before .before .args .run .r) (among .enum-told3 .given .1) (c .before .if1 .left) (c .if2 .left)
+    let run = c .before .before .before .before .args .run in
+    shape-high-m _ _ (run .r) (c .before .before .enum-told3 .given .1) (c .before .if1 .left) (c .if2 .left)
 
 pub shape-fine-spec : {M : Type 1} → statement M
 shape-fine-spec =
