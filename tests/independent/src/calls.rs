@@ -161,17 +161,18 @@ impl Batch {
         }
     }
 
-    pub fn reached(&self) -> String {
-        let one = |(call, value): (Call, u64)| match call {
-            Call::Find => ["absent", "present"][value as usize],
-            Call::Put => ["", "found", "inserted"][value as usize],
-            _ => "accepted",
-        };
-        let each = self.reached.iter().map(|(&(call, refusal, value), count)| match refusal {
-            0 => format!("{call:?} {} {count}", one((call, value))),
-            _ => format!("{call:?} refused {refusal} {count}"),
+    // What came of one call, and how often.
+    pub fn reached(&self, call: Call) -> String {
+        let of_call = self.reached.iter().filter(|(came, _)| came.0 == call);
+        let each = of_call.map(|(&(_, refusal, value), count)| match (refusal, call, value) {
+            (0, Call::Find, 0) => format!("absent {count}"),
+            (0, Call::Find, _) => format!("present {count}"),
+            (0, Call::Put, 1) => format!("found {count}"),
+            (0, Call::Put, _) => format!("inserted {count}"),
+            (0, ..) => format!("accepted {count}"),
+            _ => format!("refusal {refusal} {count}"),
         });
-        each.collect::<Vec<String>>().join(", ")
+        format!("{call:?}: {}", each.collect::<Vec<String>>().join(", "))
     }
 
     // Every refusal number and every answer of every call must have come up.

@@ -29,8 +29,13 @@ fn line(random: &mut Random, shape: Shape) -> String {
 
 fn good(random: &mut Random, most: u64) -> Vec<u8> {
     let shape = Shape { m: random.within(1, most) as u32, r: random.within(1, 12) as u32 };
-    let tasks = random.pick(&[1, 2, 3, 8, 15, 16]);
-    let mut input = format!("{:02X}{:02x}{tasks:02X}\n", shape.m, shape.r);
+    let mut heading = [shape.m, shape.r, random.pick(&[1, 2, 3, 8, 15, 16])];
+    if random.once_in(12) {
+        // a limit, or one beyond it
+        let (which, value) = random.pick(&[(0, 0), (0, 14), (0, 15), (1, 0), (1, 13), (2, 0), (2, 17)]);
+        heading[which] = value;
+    }
+    let mut input = format!("{:02X}{:02x}{:02X}\n", heading[0], heading[1], heading[2]);
     for _ in 0..random.below(10) {
         input += &line(random, shape);
         input += "\n";
@@ -46,9 +51,9 @@ fn spoil(random: &mut Random, input: &mut Vec<u8>) {
     let reach = if random.once_in(4) { input.len().min(8) } else { input.len() };
     let at = random.place(reach + 1);
     let odd = random.pick(&[b'\n', b'\r', b' ', b'G', b'g', b'/', b':', b'@', b'`', 0, 0x80, 0xFF, b'0', b'F', b'a']);
-    match random.below(7) {
+    match random.below(10) {
         0 => input.insert(at, odd),
-        1 if at < input.len() => input[at] = odd,
+        1 | 7..=9 if at < input.len() => input[at] = odd,
         2 if at < input.len() => drop(input.remove(at)),
         3 if at < input.len() => input[at] ^= 1 << random.below(8),
         4 => input.truncate(at),
@@ -66,7 +71,7 @@ pub fn random(drive: &mut Drive, program: &str, seed: u64, runs: usize) {
     for number in 0..runs {
         let mut input = good(random, if number % 40 == 0 { 14 } else { 6 });
         if random.once_in(2) {
-            for _ in 0..random.within(1, 4) {
+            for _ in 0..random.pick(&[1, 1, 2, 4]) {
                 spoil(random, &mut input);
             }
         }

@@ -76,7 +76,8 @@ fn calls(drive: &mut Drive, seed: u64, times: usize) {
         calls_cases::large(batch, drive, seed + time);
     }
     batch.must_have_reached_all();
-    println!("calls: with random and large tables and shapes that do not fit: {}", batch.reached());
+    println!("calls: {} comparisons with random and large tables and shapes that do not fit; of all:", drive.compared);
+    calls::CALLS.iter().for_each(|&call| println!("calls: {}", batch.reached(call)));
 }
 
 fn schedules(drive: &mut Drive, seed: u64, times: usize) {
@@ -93,6 +94,6 @@ fn schedules(drive: &mut Drive, seed: u64, times: usize) {
 
 fn frames(drive: &mut Drive, seed: u64, times: usize) {
     println!("frames: {} stored cases are what the independent rules say", frames::stored("tests/frame/cases"));
-    frames::random(drive, "target/bin/frame", seed, 500 * times);
-    println!("frames: {} inputs, about half of them spoiled", 500 * times);
+    frames::random(drive, "target/bin/frame", seed, 1000 * times);
+    println!("frames: {} inputs, about half of them spoiled", 1000 * times);
 }

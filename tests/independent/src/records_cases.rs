@@ -69,7 +69,8 @@ fn starting(random: &mut Random, shape: Shape) -> Vec<u16> {
 
 const JUNK: [&str; 9] = ["", "0", "000", "0G", "000000001", "00 0000001", "0000000001G", "+1", "00\r"];
 
-fn act(random: &mut Random, play: &mut Play, tally: &mut Tally) {
+// One action. In a gentle run no record is stored that may spoil a cluster, so that tasks still find sound ones.
+fn act(random: &mut Random, play: &mut Play, tally: &mut Tally, gentle: bool) {
     let count = play.records.len();
     let task = if random.once_in(40) { random.pick(&[count, 16, 255]) } else { random.place(count) };
     match random.below(20) {
@@ -78,10 +79,19 @@ fn act(random: &mut Random, play: &mut Play, tally: &mut Tally) {
             tally.give(play.give(task, key));
         }
         3 if random.once_in(4) => play.junk(random.pick(&JUNK)),
+        4 => {
+            // a task with a key all to itself, perhaps until it is done
+            let key = tables::any_key(random, play.shape, &play.words);
+            tally.give(play.give(task, key));
+            (0..random.within(1, 20)).for_each(|_| step(play, tally, task));
+        }
         3..=8 => {
             let mut record = likely_record(random, play.shape, &play.words);
             if random.once_in(4) {
                 spoil(random, play.shape, &mut record);
+            }
+            if gentle && (8..=10).contains(&record.phase) {
+                record.phase = 7;
             }
             play.store(task, record);
             step(play, tally, task);
@@ -106,9 +116,10 @@ pub fn random(drive: &mut Drive, program: &str, seed: u64, runs: usize) -> u64 {
         let words = starting(random, shape);
         let count = random.within(1, 16) as usize;
         let mut play = Play::new(shape, words, count);
-        let turns = random.below(1200);
+        let turns = random.below(1000);
+        let gentle = random.once_in(2);
         for _ in 0..turns {
-            act(random, &mut play, tally);
+            act(random, &mut play, tally, gentle);
         }
         play.compare(drive, program);
         actions += turns;

@@ -4,10 +4,15 @@
 use crate::random::Random;
 use crate::table::*;
 
-// Keys that lie close together, so that clusters and groups come about.
+// Keys that lie close together, so that clusters and groups come about, often at an end of the table.
 pub fn some_keys(random: &mut Random, shape: Shape, count: usize) -> Vec<u32> {
     let span = random.within(1, shape.homes() as u64);
-    let first = random.below(shape.homes() as u64 - span + 1);
+    let last = shape.homes() as u64 - span;
+    let first = match random.below(4) {
+        0 => 0,
+        1 => last,
+        _ => random.below(last + 1),
+    };
     let few = if random.once_in(2) { 1 << shape.r } else { random.within(1, 1 << shape.r) };
     let one = |random: &mut Random| ((first + random.below(span)) << shape.r) + random.below(few);
     (0..count).map(|_| one(random) as u32).collect()
