@@ -96,7 +96,7 @@ unfolding endsInChange
 ended-next w [] e = refl
 ended-next w (v ∷ ws) e = e
 
-owed-next : (hs : List ℕ) (w : Word) (ws : List Word) → Owed hs (w ∷ ws) → Owed (due (w .change) hs) ws
+pub owed-next : (hs : List ℕ) (w : Word) (ws : List Word) → Owed hs (w ∷ ws) → Owed (due (w .change) hs) ws
 unfolding count
 owed-next hs w ws o = record { homes = go (w .change) hs (o .homes); ended = ended-next w ws (o .ended) }
   where

@@ -105,7 +105,7 @@ module _ (e f : Entry) (s : Seen) where
         )
 
 -- one key more is at most one smaller key more
-look-counts : (e f : Entry) (s : Seen) → look e f s .smaller ≤ s .smaller + 1
+pub look-counts : (e f : Entry) (s : Seen) → look e f s .smaller ≤ s .smaller + 1
 unfolding look
 look-counts e f s = omega (arith, bit-small (precedes f e))
 
@@ -126,11 +126,11 @@ after e s es =
 abbrev pub unseen : Seen
 unseen = record { held = false; smaller = 0; grouped = false; largest = true }
 
-after-start : (e : Entry) (es : List Entry) → after e unseen es ≡ readOf e es
+pub after-start : (e : Entry) (es : List Entry) → after e unseen es ≡ readOf e es
 unfolding after readOf markOf
 after-start e es = rw (zero-add (smaller e es))
 
-after-step : (e f : Entry) (s : Seen) (es : List Entry) → after e (look e f s) es ≡ after e s (f ∷ es)
+pub after-step : (e f : Entry) (s : Seen) (es : List Entry) → after e (look e f s) es ≡ after e s (f ∷ es)
 unfolding after look holds smaller any all count
 after-step e f s es =
     rw (
@@ -146,7 +146,7 @@ after-step e f s es =
           (all (λ (g : Entry). not (sameHome e g) || precedes g e) es),
     )
 
-after-end :
+pub after-end :
     (e : Entry) (s : Seen) →
     after e s []
     ≡ record { held = s .held; smaller = s .smaller; mark = cond (s .grouped) (cond (s .largest) 1 0) 2 }
