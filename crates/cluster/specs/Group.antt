@@ -287,7 +287,7 @@ pub passed-all : (i : ℕ) (ws : List Word) → i + passed ws 0 ≡ i
 passed-all i ws = rw (passed-none ws) (add-zero i)
 
 -- ---- the run of a table between l and r
-split-run :
+pub split-run :
     (bs : List ℕ) (r : ℕ) → 2 * r ≤ length bs → (n a q : ℕ) → q - a ≡ n → a ≤ q → q ≤ r →
     slice a r (wordsOf bs) ≡ slice a q (wordsOf bs) ++ slice q r (wordsOf bs)
 split-run bs r within zero a q n h k =

@@ -4,3 +4,4 @@ pub mod Run
 pub mod Homes
 pub mod Read
 pub mod Group
+pub mod Check
