@@ -1,7 +1,7 @@
 -- Soundness and locks of a run in one pass without a branch, `checked`: the words laid over one another tell whether
 -- all remainders are low and whether one is locked; each word rises to the next, and the last to the gap after it.
 -- Assumes nothing.
-use Prim.Native.Nat.{ℕ, zero, suc, _+_, _-_, _*_, _/_, _%_, _^_, _≤_, _<_}
+use Prim.Native.Nat.{ℕ, _+_, _*_, _/_, _%_, _^_, _≤_, _<_}
 use mathlib.Core.Path.{_≡_, refl, sym, _∙_, ap, ap₂}
 use mathlib.Core.Bool.{Bool, true, false, not, _&&_, _||_, and-true, or-false, and-assoc, or-assoc}
 use mathlib.Core.List.{List, [], _∷_}

@@ -109,7 +109,11 @@ pub struct Check {
 fn rises(v: u16, w: u16) -> bool
     ensures { λ t. ⌜ t ≡ check.rises (wordOf v) (wordOf w) ⌝ }
 {
-    if change(v) { true } else { remainder(v) < remainder(w) }
+    if change(v) {
+        true
+    } else {
+        remainder(v) < remainder(w)
+    }
 }
 
 // Soundness and locks in one pass, for a run with a void word after it. There is no branch in the loop, so that it is

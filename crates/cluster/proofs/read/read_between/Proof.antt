@@ -21,8 +21,7 @@ count-homes-requires c κs = search needs
 pass-groups-requires : tie.Need-pass-groups-requires
 pass-groups-requires c κs =
     let start = c .before .before .before .before in
-    let e = entry (start .args .home .0) (start .args .x) in
-    (
+    let e = entry (start .args .home .0) (start .args .x) in (
       start .pre .1 .0,
       rw
           (c .count-homes .ensures, c .before .lower .ensures)
