@@ -2,11 +2,10 @@
 -- `Housed`, `Owed`: as many homes as groups, so that none is missing; a sound run has them (`sound-housed`).
 -- Assumes nothing.
 use Prim.Native.Nat.{ℕ, zero, suc, _+_, _-_, _*_, _≤_, _<_}
-use mathlib.Core.Path.{_≡_, refl, sym, _∙_, ap, ap₂}
+use mathlib.Core.Path.{_≡_, refl, _∙_, ap}
 use mathlib.Core.Bool.{Bool, true, false, _&&_}
 use mathlib.Core.List.{List, [], _∷_}
 use native.Mathlib.Numerals.{add-one}
-use native.Mathlib.Nat.{add-zero}
 use native.Mathlib.Omega.{arith}
 use lib.ListN.{length}
 use lib.Seq.{slice}
@@ -14,10 +13,10 @@ use lib.Dec.{eqb}
 use borrow.Author.Tests.{eqb-true}
 use Rattle.rules.specs.declared.Shape.{Shape}
 use Rattle.rules.specs.Lists.{bitOf, count}
-use Rattle.rules.specs.Word.{Word, wordOf}
+use Rattle.rules.specs.Word.{Word}
 use Rattle.rules.specs.Bytes.{wordsOf}
-use Rattle.rules.specs.Table.{at, endsInChange, soundRun, virginPlaces, front, due, deal}
-use Rattle.theory.specs.Dealt.{isChange, isVirgin, and-left, and-right, ends-counted, entry-path}
+use Rattle.rules.specs.Table.{at, endsInChange, soundRun, virginPlaces, due}
+use Rattle.theory.specs.Dealt.{isChange, isVirgin, and-left, and-right}
 use Rattle.theory.specs.RunLaws.{virgin-count}
 use Rattle.cluster.specs.Run.{run-step, run-end}
 
@@ -96,7 +95,7 @@ unfolding endsInChange
 ended-next w [] e = refl
 ended-next w (v ∷ ws) e = e
 
-owed-next : (hs : List ℕ) (w : Word) (ws : List Word) → Owed hs (w ∷ ws) → Owed (due (w .change) hs) ws
+pub owed-next : (hs : List ℕ) (w : Word) (ws : List Word) → Owed hs (w ∷ ws) → Owed (due (w .change) hs) ws
 unfolding count
 owed-next hs w ws o = record { homes = go (w .change) hs (o .homes); ended = ended-next w ws (o .ended) }
   where
@@ -104,48 +103,3 @@ owed-next hs w ws o = record { homes = go (w .change) hs (o .homes); ended = end
     go false hs e = omega arith
     go true [] e = absurd (omega arith)
     go true (h ∷ hs) e = omega arith
-
--- ---- one word of a run: its home is the one that is due, and after a change bit the next is
-module _ (bs : List ℕ) (i r v w : ℕ) (lt : i < r) (within : 2 * r ≤ length bs) (word : wordOf w ≡ at (wordsOf bs) i)
-    (o : Owed (homesFrom (wordsOf bs) r v) (slice i r (wordsOf bs)))
-  where
-    owed : Owed (homesFrom (wordsOf bs) r v) (wordOf w ∷ slice (i + 1) r (wordsOf bs))
-    owed = rw (run-step bs i r lt within, ← word) at o
-
-    turn : Due bs r (homesFrom (wordsOf bs) r v)
-    turn = due-home bs v r within (omega (arith, owed .homes, ends-counted _ _ (owed .ended)))
-
-    pub home-inside : (h : ℕ) → h ≡ firstOf r (homesFrom (wordsOf bs) r v) → h < r
-    home-inside h home-is = rw home-is (turn .inside)
-
-    module _ (h x y : ℕ)
-        (home-is : h ≡ firstOf r (homesFrom (wordsOf bs) r v))
-        (bit-is : x ≡ bitOf (wordOf w .change))
-        (remainder-is : y ≡ wordOf w .remainder)
-      where
-        next-homes : homesFrom (wordsOf bs) r (h + x) ≡ due (wordOf w .change) (homesFrom (wordsOf bs) r v)
-        next-homes = rw (home-is, bit-is) (go (wordOf w .change))
-          where
-            go :
-                (b : Bool) →
-                homesFrom (wordsOf bs) r (firstOf r (homesFrom (wordsOf bs) r v) + bitOf b)
-                ≡ due b (homesFrom (wordsOf bs) r v)
-            go true = sym (ap (due true) (turn .first))
-            go false = rw add-zero (turn .same)
-
-        pub still-owed : Owed (homesFrom (wordsOf bs) r (h + x)) (slice (i + 1) r (wordsOf bs))
-        still-owed =
-            rw next-homes (owed-next (homesFrom (wordsOf bs) r v) (wordOf w) (slice (i + 1) r (wordsOf bs)) owed)
-
-        pub next-entry :
-            deal (homesFrom (wordsOf bs) r v) (slice i r (wordsOf bs))
-            ≡ record { home = h; remainder = y }
-            ∷ deal (homesFrom (wordsOf bs) r (h + x)) (slice (i + 1) r (wordsOf bs))
-        unfolding deal
-        next-entry =
-            rw
-            (run-step bs i r lt within, ← word)
-            (ap₂
-            _∷_
-            (entry-path (ap front (turn .first) ∙ sym home-is) (sym remainder-is))
-            (ap (λ (hs : List ℕ). deal hs (slice (i + 1) r (wordsOf bs))) (sym next-homes)))

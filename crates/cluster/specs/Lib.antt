@@ -3,3 +3,5 @@ pub mod Scan
 pub mod Run
 pub mod Homes
 pub mod Read
+pub mod Group
+pub mod Check

@@ -1,26 +1,23 @@
 -- What a read gives, `readOf`, by the rules' `holds`, `smaller` and `markOf`; and the same key by key:
 -- `look` takes one key, `after` is what a read gives after some were seen.
 -- Assumes nothing.
-use Prim.Native.Nat.{ℕ, suc, _+_, _*_, _≤_, _<_}
-use mathlib.Core.Path.{_≡_, refl, sym, _∙_, ap}
+use Prim.Native.Nat.{ℕ, _+_, _≤_, _<_}
+use mathlib.Core.Path.{_≡_}
 use mathlib.Core.Bool.{true, false, not, cond, _&&_, _||_, or-false, and-true, or-assoc, and-assoc, or-comm, and-comm}
 use mathlib.Core.List.{List, [], _∷_}
 use native.Mathlib.Numerals.{add-one}
 use native.Mathlib.Nat.{zero-add, add-zero, add-assoc}
 use native.Mathlib.Omega.{arith}
-use lib.ListN.{length}
 use lib.Seq.{slice}
 use borrow.Author.Tests.{lt-ltb, le-ltb, eq-eqb, ne-eqb}
 use Rattle.rules.specs.Lists.{bitOf, count, all, any}
-use Rattle.rules.specs.Word.{wordOf}
 use Rattle.rules.specs.Bytes.{wordsOf}
 use Rattle.rules.specs.Entry.{Entry, sameHome, sameEntry, precedes}
-use Rattle.rules.specs.Table.{at, between, deal, entriesBetween}
+use Rattle.rules.specs.Table.{at, deal, entriesBetween}
 use Rattle.rules.specs.Lay.{holds}
 use Rattle.rules.specs.Phase.{smaller, markOf}
 use Rattle.words.specs.Number.{bit-small}
-use Rattle.cluster.specs.Run.{run-end}
-use Rattle.cluster.specs.Homes.{homesFrom, firstOf, Housed, Owed, housed-owed, still-owed, next-entry}
+use Rattle.cluster.specs.Homes.{homesFrom}
 use Rattle.cluster.specs.declared.read.Read.{Read}
 use Rattle.cluster.specs.declared.read.Seen.{Seen}
 
@@ -105,7 +102,7 @@ module _ (e f : Entry) (s : Seen) where
         )
 
 -- one key more is at most one smaller key more
-look-counts : (e f : Entry) (s : Seen) → look e f s .smaller ≤ s .smaller + 1
+pub look-counts : (e f : Entry) (s : Seen) → look e f s .smaller ≤ s .smaller + 1
 unfolding look
 look-counts e f s = omega (arith, bit-small (precedes f e))
 
@@ -130,7 +127,7 @@ after-start : (e : Entry) (es : List Entry) → after e unseen es ≡ readOf e e
 unfolding after readOf markOf
 after-start e es = rw (zero-add (smaller e es))
 
-after-step : (e f : Entry) (s : Seen) (es : List Entry) → after e (look e f s) es ≡ after e s (f ∷ es)
+pub after-step : (e f : Entry) (s : Seen) (es : List Entry) → after e (look e f s) es ≡ after e s (f ∷ es)
 unfolding after look holds smaller any all count
 after-step e f s es =
     rw (
@@ -146,7 +143,7 @@ after-step e f s es =
           (all (λ (g : Entry). not (sameHome e g) || precedes g e) es),
     )
 
-after-end :
+pub after-end :
     (e : Entry) (s : Seen) →
     after e s []
     ≡ record { held = s .held; smaller = s .smaller; mark = cond (s .grouped) (cond (s .largest) 1 0) 2 }
@@ -158,46 +155,8 @@ after-end e s = rw (or-false (s .held), add-zero (s .smaller), or-false (s .grou
 abbrev pub upTo : Entry → List ℕ → ℕ → Seen → ℕ → ℕ → Read
 upTo e bs r s v i = after e s (deal (homesFrom (wordsOf bs) r v) (slice i r (wordsOf bs)))
 
--- the state of the pass: a is what the whole read gives
-pub record Reading (e : Entry) (bs : List ℕ) (r : ℕ) (a : Read) (s : Seen) (v i : ℕ) : Type 0 where
-  pub counted : s .smaller ≤ i
-  pub owed : Owed (homesFrom (wordsOf bs) r v) (slice i r (wordsOf bs))
-  pub whole : upTo e bs r s v i ≡ a
-
 module _ (e : Entry) (bs : List ℕ) (r : ℕ) where
   -- what the whole read gives, before the first place after l
   pub read-whole : (l : ℕ) → upTo e bs r unseen (l + 1) (l + 1) ≡ readOf e (entriesBetween (wordsOf bs) l r)
   unfolding entriesBetween
   read-whole l = rw add-one (after-start e _)
-
-  pub reading-start :
-      (l : ℕ) → Housed (between (wordsOf bs) l r) →
-      Reading e bs r (upTo e bs r unseen (l + 1) (l + 1)) unseen (l + 1) (l + 1)
-  reading-start l h =
-      record {
-        counted = omega arith;
-        owed = rw add-one (housed-owed (suc l) (between (wordsOf bs) l r) h);
-        whole = refl;
-      }
-
-  pub reading-step :
-      (a : Read) (s : Seen) (v i : ℕ) → Reading e bs r a s v i → i < r → 2 * r ≤ length bs →
-      (w : ℕ) → wordOf w ≡ at (wordsOf bs) i →
-      (h x y : ℕ) → h ≡ firstOf r (homesFrom (wordsOf bs) r v) → x ≡ bitOf (wordOf w .change) →
-      y ≡ wordOf w .remainder → (t : Seen) → t ≡ look e (entry h y) s →
-      Reading e bs r a t (h + x) (i + 1)
-  reading-step a s v i g lt within w word h x y home-is bit-is remainder-is t seen =
-      record {
-        counted = omega (arith, look-counts e (entry h y) s, ap (λ (u : Seen). u .smaller) seen);
-        owed = still-owed bs i r v w lt within word (g .owed) h x y home-is bit-is remainder-is;
-        whole =
-            rw seen (after-step e (entry h y) s _)
-            ∙ ap (after e s) (sym (next-entry bs i r v w lt within word (g .owed) h x y home-is bit-is remainder-is))
-            ∙ g .whole;
-      }
-
-  pub reading-end :
-      (a : Read) (s : Seen) (v i : ℕ) → Reading e bs r a s v i → r ≤ i →
-      record { held = s .held; smaller = s .smaller; mark = cond (s .grouped) (cond (s .largest) 1 0) 2 } ≡ a
-  unfolding deal
-  reading-end a s v i g h = sym (after-end e s) ∙ rw (run-end bs i r h) at (g .whole)

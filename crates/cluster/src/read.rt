@@ -7,14 +7,19 @@ use words::word::change;
 use words::word::remainder;
 use words::word::virgin;
 ghost use mathlib.Core.Path.{_≡_};
-ghost use mathlib.Core.Bool.{cond};
-ghost use Prim.Native.Nat.{_+_, _*_, _≤_, _<_};
+ghost use mathlib.Core.Bool.{cond, _&&_};
+ghost use Prim.Native.Nat.{_+_, _*_, _≤_, _<_, min};
 ghost use lib.ListN.{length};
+ghost use lib.Seq.{slice};
+ghost use lib.Dec.{ltb};
+ghost use Rattle.rules.specs.Lists.{count};
 ghost use Rattle.rules.specs.Bytes.{wordsOf};
-ghost use Rattle.rules.specs.Table.{between, entriesBetween};
+ghost use Rattle.rules.specs.Table.{at, between, entriesBetween};
+ghost use Rattle.theory.specs.Dealt.{isChange, isVirgin};
 ghost use Rattle.cluster.specs.Homes.{homesFrom, firstOf, Housed};
 ghost use Rattle.cluster.specs.Read as spec;
 ghost use Rattle.cluster.specs.Read.{readOf, entry};
+ghost use Rattle.cluster.specs.Group.{passed, readSeen, groupRead};
 
 // Is the key there, how many keys are smaller, and the mark: 2 if its group is new, 1 if it is larger than all of its
 // group, else 0.
@@ -98,32 +103,112 @@ fn mark_of(grouped: bool, largest: bool) -> u8
     }
 }
 
-// The key of home and remainder x, in one pass: i goes through the keys, v through the homes, both only to the right.
-// A run that is housed, as a sound one is, has a home for each of its keys.
+fn read_of(seen: Seen) -> Read
+    ensures { λ a. ⌜ a ≡ readSeen seen ⌝ }
+{
+    Read {
+        held: seen.held,
+        smaller: seen.smaller,
+        mark: mark_of(seen.grouped, seen.largest),
+    }
+}
+
+// The homes from place a on, up to b and without it.
+fn count_homes(table: &[u8], a: Place, b: Place) -> u32
+    requires { ⌜ 2 * b .0 ≤ length (now table) ⌝ }
+    ensures { λ n. ⌜ n ≡ count isVirgin (slice (a .0) (b .0) (wordsOf (now (table .entry)))) ⌝ }
+{
+    let end = b.0;
+    let mut n: u32 = 0;
+    let mut i = a.0;
+    while i < end {
+        let w = word_at(table, Place(i));
+        n += bit_of(virgin(w));
+        i += 1;
+    }
+    n
+}
+
+// The place after the first k groups from place a on.
+fn pass_groups(table: &[u8], a: Place, r: Place, k: u32) -> Place
+    requires { ⌜ 2 * r .0 ≤ length (now table) ⌝ }
+    requires { ⌜ k ≤ count isChange (slice (a .0) (r .0) (wordsOf (now table))) ⌝ }
+    ensures { λ p. ⌜ p .0 ≡ a .0 + passed (slice (a .0) (r .0) (wordsOf (now (table .entry)))) k ⌝ }
+{
+    let mut left = k;
+    let mut i = a.0;
+    while left > 0 {
+        let w = word_at(table, Place(i));
+        left -= bit_of(change(w));
+        i += 1;
+    }
+    Place(i)
+}
+
+// The words from p on are the group of the home: they are looked at up to its end.
+fn read_group(table: &[u8], p: Place, r: Place, home: Place, x: u16, before: Seen) -> Read
+    requires { ⌜ 2 * r .0 ≤ length (now table) ⌝ ∗ ⌜ before .smaller ≤ p .0 ⌝ }
+    ensures { λ a. ⌜ a ≡ groupRead (entry (home .0) x) before (slice (p .0) (r .0) (wordsOf (now (table .entry)))) ⌝ }
+{
+    let end = r.0;
+    let mut seen = before;
+    let mut i = p.0;
+    while i < end {
+        let w = word_at(table, Place(i));
+        seen = look(seen, home, x, home, remainder(w));
+        if change(w) {
+            return read_of(seen);
+        } else {
+            i += 1;
+        }
+    }
+    read_of(seen)
+}
+
+// Whether a home is among the places between l and r.
+fn home_between(table: &[u8], l: Place, r: Place, home: Place) -> bool
+    requires { ⌜ 2 * r .0 ≤ length (now table) ⌝ }
+    ensures { λ b. ⌜ b
+        ≡ (ltb (l .0) (home .0)
+        && (ltb (home .0) (r .0) && at (wordsOf (now (table .entry))) (home .0) .virgin)) ⌝ }
+{
+    if l.0 < home.0 {
+        if home.0 < r.0 {
+            virgin(word_at(table, home))
+        } else {
+            false
+        }
+    } else {
+        false
+    }
+}
+
+fn lower(p: Place, q: Place) -> Place
+    ensures { λ a. ⌜ a .0 ≡ min (p .0) (q .0) ⌝ }
+{
+    if p.0 < q.0 { p } else { q }
+}
+
+// The key of home and remainder x. The groups of earlier homes are passed over by their change bits, as many as there
+// are homes before the key's; then its own group is read. A run that is housed, as a sound one is, has a home for each
+// of its groups.
 pub fn read_between(table: &[u8], l: Place, r: Place, home: Place, x: u16) -> Read
     requires { ⌜ l .0 < r .0 ⌝ ∗ ⌜ 2 * r .0 ≤ length (now table) ⌝ }
     requires { ⌜ Housed (between (wordsOf (now table)) (l .0) (r .0)) ⌝ }
     ensures { λ a. ⌜ a ≡ readOf (entry (home .0) x) (entriesBetween (wordsOf (now (table .entry))) (l .0) (r .0)) ⌝ }
 {
-    let end = r.0;
-    let mut seen = Seen {
+    let first = l.0 + 1;
+    let homes = count_homes(table, Place(first), lower(home, r));
+    let p = pass_groups(table, Place(first), r, homes);
+    let seen = Seen {
         held: false,
-        smaller: 0,
+        smaller: p.0 - first,
         grouped: false,
         largest: true,
     };
-    let mut v = l.0 + 1;
-    let mut i = l.0 + 1;
-    while i < end {
-        let w = word_at(table, Place(i));
-        let h = next_virgin(table, Place(v), r);
-        seen = look(seen, home, x, h, remainder(w));
-        v = h.0 + bit_of(change(w));
-        i += 1;
-    }
-    Read {
-        held: seen.held,
-        smaller: seen.smaller,
-        mark: mark_of(seen.grouped, seen.largest),
+    if home_between(table, l, r, home) {
+        read_group(table, p, r, home, x, seen)
+    } else {
+        read_of(seen)
     }
 }

@@ -11,16 +11,19 @@ use words::word::remainder;
 use words::word::virgin;
 use words::word::with_change;
 ghost use mathlib.Core.Path.{_≡_};
+ghost use mathlib.Core.Bool.{true};
 ghost use Prim.Native.Nat.{_+_, _*_, _≤_, _<_};
 ghost use lib.ListN.{length};
 ghost use lib.Seq.{slice};
 ghost use Rattle.rules.specs.Lists.{all};
-ghost use Rattle.rules.specs.Word.{wordOf};
+ghost use Rattle.rules.specs.Word.{wordOf, isVoid};
 ghost use Rattle.rules.specs.Bytes.{wordsOf};
-ghost use Rattle.rules.specs.Table.{between, soundRun, locked};
+ghost use Rattle.rules.specs.Table.{at, between, soundRun, locked};
 ghost use Rattle.words.specs.Range.{InRange};
 ghost use Rattle.theory.specs.Dealt.{isOccupied};
 ghost use Rattle.cluster.specs.Run as spec;
+ghost use Rattle.cluster.specs.Check as check;
+ghost use Rattle.cluster.specs.Check.{checkOf};
 
 // Among the places from a on, up to b and without it.
 pub fn any_locked(table: &[u8], a: Place, b: Place) -> bool
@@ -93,5 +96,51 @@ pub fn sound_run(sh: Shape, table: &[u8], l: Place, r: Place) -> bool
         virgins == changes
     } else {
         false
+    }
+}
+
+// What a pass over a run tells.
+pub struct Check {
+    pub sound: bool,
+    pub locked: bool,
+}
+
+// Whether v ends its group or the remainder of w is above v's.
+fn rises(v: u16, w: u16) -> bool
+    ensures { λ t. ⌜ t ≡ check.rises (wordOf v) (wordOf w) ⌝ }
+{
+    if change(v) {
+        true
+    } else {
+        remainder(v) < remainder(w)
+    }
+}
+
+// Soundness and locks in one pass, for a run with a void word after it. There is no branch in the loop, so that it is
+// made for vector units: the words are laid over one another, and each is held against the next.
+pub fn check_run(sh: Shape, table: &[u8], l: Place, r: Place) -> Check
+    requires { ⌜ InRange sh ⌝ ∗ ⌜ l .0 < r .0 ⌝ ∗ ⌜ 2 * r .0 + 1 < length (now table) ⌝ }
+    requires { ⌜ isVoid (at (wordsOf (now table)) (r .0)) ≡ true ⌝ }
+    ensures { λ c. ⌜ c ≡ checkOf sh (between (wordsOf (now (table .entry))) (l .0) (r .0)) ⌝ }
+{
+    let end = r.0;
+    let mut up = true;
+    let mut over: u16 = 0;
+    let mut virgins: u32 = 0;
+    let mut changes: u32 = 0;
+    let mut i = l.0 + 1;
+    while i < end {
+        let w = word_at(table, Place(i));
+        let next = word_at(table, Place(i + 1));
+        up = up & rises(w, next);
+        over = over | w;
+        virgins += bit_of(virgin(w));
+        changes += bit_of(change(w));
+        i += 1;
+    }
+    let low = (remainder(over) as u32) < remainders(sh);
+    Check {
+        sound: up & low & (virgins == changes),
+        locked: lock(over),
     }
 }

@@ -2,10 +2,11 @@
 -- `around-alone`, `around-cluster`: what is to be looked at where the home is empty, and where it is occupied.
 -- `Looks`: what is then known; `alone-entries` and `cluster-inside`: what follows for the key's cluster.
 -- Assumes nothing.
-use Prim.Native.Nat.{ℕ, suc, _<_}
-use mathlib.Core.Path.{_≡_, refl, sym, _∙_, subst}
-use mathlib.Core.Bool.{Bool, true, false, cond, _&&_, _||_}
-use mathlib.Core.List.{List, []}
+use Prim.Native.Nat.{ℕ, suc, _+_, _-_, _*_, _<_}
+use mathlib.Core.Path.{_≡_, refl, sym, _∙_, ap, subst}
+use mathlib.Core.Bool.{Bool, true, false, cond, _&&_, _||_, or-assoc}
+use mathlib.Core.List.{List, [], _∷_, _++_}
+use native.Mathlib.Numerals.{add-one}
 use native.Mathlib.Omega.{arith}
 use lib.ListN.{length, take, drop-of-length-le, length-take}
 use lib.Seq.{slice, slice-cons, slice-empty}
@@ -13,6 +14,7 @@ use Rattle.rules.specs.declared.Shape.{Shape}
 use Rattle.rules.specs.declared.Refusal.the-variants.{Unsound, Locked}
 use Rattle.rules.specs.Lists.{count, all, any}
 use Rattle.rules.specs.Word.{Word, zeroWord, isVoid}
+use Rattle.rules.specs.Bytes.{wordsOf}
 use Rattle.rules.specs.Shape.{places}
 use Rattle.rules.specs.Table.{at, occupied, leftGap, rightGap, between, cluster, soundRun, guardsVoid, locked}
 use Rattle.rules.specs.Table.{endsInChange, rising, deal, entriesBetween, clusterEntries}
@@ -24,6 +26,10 @@ use Rattle.theory.specs.Cut.{cut-home}
 use Rattle.theory.specs.Places.{occupied-at, occupied-length}
 use Rattle.cluster.specs.Homes.{Housed, sound-housed}
 use Rattle.cluster.specs.Scan.{left-stop, right-stop}
+use Rattle.cluster.specs.Run.{run-step, run-end, run-after}
+use Rattle.cluster.specs.Group.{split-run}
+use Rattle.cluster.specs.Check.{checkOf}
+use Rattle.cluster.specs.declared.run.Check.{Check}
 use Rattle.table.specs.declared.around.Around.{Around}
 use Rattle.table.specs.declared.around.Around.the-variants.{Refused, Empty, Cluster}
 
@@ -52,6 +58,62 @@ soundBetween sh ws l r = isVoid (at ws l) && isVoid (at ws r) && soundRun sh (be
 unfoldable pub betweenOf : Shape → List Word → Place → Place → Around
 betweenOf sh ws l r =
     clear (soundBetween sh ws (l .0) (r .0)) (locked (slice (l .0) (suc (r .0)) ws)) (Cluster l r)
+
+-- the same by a check of the run and whether an end is locked
+unfoldable pub toldOf : Place → Place → Check → Bool → Around
+toldOf l r run ends = clear (run .sound) (run .locked || ends) (Cluster l r)
+
+locked-append : (us vs : List Word) → locked (us ++ vs) ≡ (locked us || locked vs)
+unfolding locked any
+locked-append [] vs = refl
+locked-append (u ∷ us) vs =
+    ap (λ (b : Bool). u .lock || b) (locked-append us vs) ∙ sym (or-assoc (u .lock) (locked us) (locked vs))
+
+-- the words from l to r: the run between them, and the two
+locked-ends :
+    (bs : List ℕ) (l r : ℕ) → l < r → 2 * r + 1 < length bs →
+    locked (slice l (suc r) (wordsOf bs))
+    ≡ (locked (between (wordsOf bs) l r) || (at (wordsOf bs) l .lock || at (wordsOf bs) r .lock))
+unfolding locked any
+locked-ends bs l r lt within =
+    rw (
+      ← add-one r,
+      run-step bs l (r + 1) (omega arith) (omega arith),
+      split-run bs (r + 1) (omega arith) (r - (l + 1)) (l + 1) r refl (omega arith) (omega arith),
+      run-step bs r (r + 1) (omega arith) (omega arith),
+      run-end bs (r + 1) (r + 1) (omega arith),
+      run-after bs l r,
+      locked-append (between (wordsOf bs) l r) (at (wordsOf bs) r ∷ []),
+    )
+    (order (at (wordsOf bs) l .lock) (locked (between (wordsOf bs) l r)) (at (wordsOf bs) r .lock))
+  where
+    order : (a b c : Bool) → (a || (b || (c || false))) ≡ (b || (a || c))
+    order true true c = refl
+    order true false c = refl
+    order false true c = refl
+    order false false true = refl
+    order false false false = refl
+
+module _ (sh : Shape) (bs : List ℕ) (l r : Place) where
+  pub between-told :
+      l .0 < r .0 → 2 * r .0 + 1 < length bs → isVoid (at (wordsOf bs) (l .0)) ≡ true →
+      isVoid (at (wordsOf bs) (r .0)) ≡ true → (run : Check) → run ≡ checkOf sh (between (wordsOf bs) (l .0) (r .0)) →
+      (ends : Bool) → ends ≡ (at (wordsOf bs) (l .0) .lock || at (wordsOf bs) (r .0) .lock) →
+      toldOf l r run ends ≡ betweenOf sh (wordsOf bs) l r
+  unfolding toldOf betweenOf soundBetween checkOf
+  between-told lt within left right run is ends locks =
+      rw (is, locks, left, right, locked-ends bs (l .0) (r .0) lt within)
+
+  pub left-unsound :
+      isVoid (at (wordsOf bs) (l .0)) ≡ false → Refused Unsound ≡ betweenOf sh (wordsOf bs) l r
+  unfolding betweenOf soundBetween
+  left-unsound left = rw left
+
+  pub right-unsound :
+      isVoid (at (wordsOf bs) (l .0)) ≡ true → isVoid (at (wordsOf bs) (r .0)) ≡ false →
+      Refused Unsound ≡ betweenOf sh (wordsOf bs) l r
+  unfolding betweenOf soundBetween
+  right-unsound left right = rw (left, right)
 
 -- an unoccupied home is its own gap on both sides, with nothing between
 record OwnGaps (ws : List Word) (home : ℕ) : Type 0 where

@@ -17,8 +17,8 @@ use Rattle.rules.specs.declared.PutAnswer.{PutAnswer}
 use Rattle.rules.specs.declared.PutAnswer.the-variants as put-answer
 use Rattle.rules.specs.Lists.{any}
 use Rattle.rules.specs.Word.{Word}
-use Rattle.rules.specs.Shape.{homes, remainders, rightGuard}
-use Rattle.rules.specs.Entry.{Entry, sameEntry}
+use Rattle.rules.specs.Shape.{homes, remainders, rightGuard, keys}
+use Rattle.rules.specs.Entry.{Entry, sameEntry, split}
 use Rattle.rules.specs.Lay.{holds, insert, ascend}
 use Rattle.rules.specs.Answer.{Leaves, leaves, numberOfRefusal, putSays}
 use Rattle.rules.specs.Put.{Outcome, putIn, wordsAfter}
@@ -28,6 +28,15 @@ use Rattle.theory.specs.Perm.{All, none, both}
 use Rattle.theory.specs.Insert.{Within, ascend-asc, holds-ascend, holds-insert, holds-head, same-eq, same-refl}
 use Rattle.theory.specs.Order.{taken-homes}
 use Rattle.theory.specs.Gaps.{HomePlace}
+use Rattle.theory.specs.Finding.{surroundings, around-free}
+use Rattle.words.specs.Range.{InRange, remainders-high}
+use Rattle.words.specs.Split.{InShape, split-in-shape}
+use Rattle.words.specs.declared.place.Place.{Place}
+use Rattle.rules.specs.Table.{at, occupied, leftGap, rightGap}
+use Rattle.rules.specs.Find.{soundAround}
+use Rattle.table.specs.declared.around.Around.the-variants.{Empty, Cluster}
+use Rattle.table.specs.Around.{Looks, alone, inside}
+use Rattle.table.specs.Key.{home-place}
 use Rattle.theory.specs.Pairs.{table-tight, tight-taken}
 use Rattle.theory.specs.Putting.{Puts, found, inserted, overflow, put-table, table-guarded}
 use Rattle.theory.specs.Building.{Roomy, State, Inside, subset-length, table-asc, added-state, in-home, in-low}
@@ -228,3 +237,63 @@ fill-zeros sh {es} s w = go (ltb (homes sh) (length (ascend es))) refl
         (zeros-state sh)
         (nothing-inside _)
         (inside-ascend es)
+
+-- ---- a table that is sound and unlocked, as build has it between two puts
+pub record Clean (sh : Shape) (ws : List Word) : Type 0 where
+  pub shown : List Entry
+  pub state : State sh ws shown
+
+pub zeros-clean : (sh : Shape) → Clean sh (zeros sh)
+zeros-clean sh = record { shown = []; state = zeros-state sh }
+
+pub still-clean :
+    (sh : Shape) (ws vs : List Word) (e : Entry) → remainders sh ≤ 4096 →
+    Within (remainders sh) (rightGuard sh) 4096 e → Clean sh ws →
+    filled vs ≡ fillWith sh (filled ws) e → Clean sh vs
+unfolding fillAll
+still-clean sh ws vs e low w c made =
+    let r = fill-shows low (both w none) ws (c .shown) (c .state) vs (sym made) in
+    record { shown = r .shown; state = r .state }
+
+split-within : (sh : Shape) (key : ℕ) → key < keys sh → Within (remainders sh) (rightGuard sh) 4096 (split sh key)
+unfolding rightGuard
+split-within sh key low =
+    let i = split-in-shape sh key low in
+    record { above = omega (arith, i .home-low); low = i .remainder-low; inside = omega (arith, i .home-high) }
+
+pub key-clean :
+    (sh : Shape) → InRange sh → (ws vs : List Word) (key : ℕ) → key < keys sh → Clean sh ws → (b : Bool) →
+    filledIf b vs ≡ fillWith sh (filled ws) (split sh key) → b ≡ true → Clean sh vs
+key-clean sh range ws vs key low c b made room =
+    still-clean
+    sh
+    ws
+    vs
+    (split sh key)
+    (remainders-high sh range)
+    (split-within sh key low)
+    c
+    (rw room at made)
+
+-- so the surroundings of a home are sound and unlocked
+module _ {sh : Shape} {ws : List Word} (e : Entry) (range : InRange sh) (i : InShape sh e) (c : Clean sh ws) where
+  around-sound : soundAround sh ws (e .home) ≡ true
+  around-sound =
+      surroundings
+      sh
+      e
+      (remainders-high sh range)
+      (c .state .size)
+      (home-place i)
+      (i .remainder-low)
+      (c .state .table)
+      .sound
+
+  pub clean-alone : at ws (e .home) .occupied ≡ false → Looks sh ws (e .home) Empty
+  clean-alone empty = alone around-sound (around-free ws (e .home) (c .state .free)) empty
+
+  pub clean-inside :
+      (l r : Place) → l .0 ≡ leftGap (occupied ws) (e .home) → r .0 ≡ rightGap (occupied ws) (e .home) →
+      at ws (e .home) .occupied ≡ true → Looks sh ws (e .home) (Cluster l r)
+  clean-inside l r left right full =
+      rw (left, right) (inside around-sound (around-free ws (e .home) (c .state .free)) full)

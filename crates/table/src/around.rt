@@ -3,8 +3,8 @@
 use cluster::gaps::left_gap;
 use cluster::gaps::right_gap;
 use cluster::guards::guards_void;
-use cluster::run::any_locked;
-use cluster::run::sound_run;
+use cluster::run::Check;
+use cluster::run::check_run;
 use rules::Refusal;
 use rules::Shape;
 use words::bytes::word_at;
@@ -13,14 +13,14 @@ use words::word::is_void;
 use words::word::lock;
 use words::word::occupied;
 ghost use mathlib.Core.Path.{_≡_};
-ghost use Prim.Native.Nat.{_+_, _*_, _<_};
+ghost use Prim.Native.Nat.{_*_, _<_};
 ghost use lib.ListN.{length};
 ghost use Rattle.rules.specs.Word.{wordOf};
 ghost use Rattle.rules.specs.Bytes.{wordsOf};
 ghost use Rattle.rules.specs.Shape.{places};
 ghost use Rattle.words.specs.Range.{InRange};
 ghost use Rattle.theory.specs.Gaps.{HomePlace};
-ghost use Rattle.table.specs.Around.{soundBetween, aloneOf, betweenOf, aroundOf};
+ghost use Rattle.table.specs.Around.{toldOf, aloneOf, betweenOf, aroundOf};
 
 // Refused, or free to look for the key: at an empty home, or between the two ends of its cluster.
 pub enum Around {
@@ -43,32 +43,33 @@ fn alone(w: u16) -> Around
     }
 }
 
-// The cluster between two places and these places themselves.
-fn sound_between(sh: Shape, table: &[u8], l: Place, r: Place) -> bool
-    requires { ⌜ InRange sh ⌝ ∗ ⌜ l .0 < r .0 ⌝ ∗ ⌜ 2 * r .0 + 1 < length (now table) ⌝ }
-    ensures { λ b. ⌜ b ≡ soundBetween sh (wordsOf (now (table .entry))) (l .0) (r .0) ⌝ }
+// Soundness before the lock: of the run between two places and of these places, its ends.
+fn told(l: Place, r: Place, run: Check, ends: bool) -> Around
+    ensures { λ a. ⌜ a ≡ toldOf l r run ends ⌝ }
 {
-    if is_void(word_at(table, l)) {
-        if is_void(word_at(table, r)) {
-            sound_run(sh, table, l, r)
+    if run.sound {
+        if run.locked | ends {
+            Around::Refused(Refusal::Locked)
         } else {
-            false
+            Around::Cluster(l, r)
         }
     } else {
-        false
+        Around::Refused(Refusal::Unsound)
     }
 }
 
+// The cluster between two places and these places themselves.
 fn between(sh: Shape, table: &[u8], l: Place, r: Place) -> Around
     requires { ⌜ InRange sh ⌝ ∗ ⌜ length (now table) ≡ 2 * places sh ⌝ ∗ ⌜ l .0 < r .0 ⌝ ∗ ⌜ r .0 < places sh ⌝ }
     ensures { λ a. ⌜ a ≡ betweenOf sh (wordsOf (now (table .entry))) l r ⌝ }
 {
-    if sound_between(sh, table, l, r) {
-        let end = r.0 + 1;
-        if any_locked(table, l, Place(end)) {
-            Around::Refused(Refusal::Locked)
+    let v = word_at(table, l);
+    let w = word_at(table, r);
+    if is_void(v) {
+        if is_void(w) {
+            told(l, r, check_run(sh, table, l, r), lock(v) | lock(w))
         } else {
-            Around::Cluster(l, r)
+            Around::Refused(Refusal::Unsound)
         }
     } else {
         Around::Refused(Refusal::Unsound)

@@ -1,5 +1,6 @@
-// Build (01, Answers and their numbers): puts from all zero. A key that finds no room shows that there are too many.
-use crate::put::put_key;
+// Build (01, Answers and their numbers): puts from all zero, so into a table that stays sound and unlocked.
+// A key that finds no room shows that there are too many.
+use crate::put::put_clean;
 use rules::Done;
 use rules::PutAnswer;
 use rules::Refusal;
@@ -21,7 +22,7 @@ ghost use Rattle.rules.specs.Entry.{split};
 ghost use Rattle.rules.specs.Answer.{leaves, doneSays};
 ghost use Rattle.rules.specs.Build.{buildIn, build as spec-build};
 ghost use Rattle.words.specs.Range.{InRange};
-ghost use Rattle.table.specs.Filling.{filled, filledIf, fillWith, fillAll};
+ghost use Rattle.table.specs.Filling.{filled, filledIf, fillWith, fillAll, Clean};
 
 fn good_keys(sh: Shape, keys: &[u32]) -> bool
     requires { ⌜ InRange sh ⌝ }
@@ -41,10 +42,11 @@ fn good_keys(sh: Shape, keys: &[u32]) -> bool
 // Whether there was room for the key.
 fn put_fits(sh: Shape, table: &mut [u8], key: u32) -> bool
     requires { ⌜ InRange sh ⌝ ∗ ⌜ length (now table) ≡ 2 * places sh ⌝ ∗ ⌜ key < keys-of sh ⌝ }
+    requires { ⌜ Clean sh (wordsOf (now table)) ⌝ }
     ensures { λ b. ⌜ filledIf b (wordsOf (now (table .exit)))
         ≡ fillWith sh (filled (wordsOf (now (table .entry)))) (split sh key) ⌝ }
 {
-    let answer = put_key(sh, table, key);
+    let answer = put_clean(sh, table, key);
     match answer {
         PutAnswer::Found => {
             return true;
@@ -62,6 +64,7 @@ fn put_fits(sh: Shape, table: &mut [u8], key: u32) -> bool
 fn put_all(sh: Shape, table: &mut [u8], keys: &[u32]) -> bool
     requires { ⌜ InRange sh ⌝ ∗ ⌜ length (now table) ≡ 2 * places sh ⌝ }
     requires { ⌜ all (λ (key : ℕ). ltb key (keys-of sh)) (now keys) ≡ true ⌝ }
+    requires { ⌜ Clean sh (wordsOf (now table)) ⌝ }
     ensures { λ b. ⌜ filledIf b (wordsOf (now (table .exit)))
         ≡ fillAll sh (filled (wordsOf (now (table .entry)))) (map (split sh) (now (keys .entry))) ⌝ }
 {

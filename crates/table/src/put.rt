@@ -1,6 +1,8 @@
 // Put (01, Answers and their numbers; Where a new key goes).
 use crate::around::Around;
 use crate::around::look_around;
+use cluster::gaps::left_gap;
+use cluster::gaps::right_gap;
 use cluster::read::Read;
 use cluster::read::read_between;
 use motion::hand::carry;
@@ -10,6 +12,7 @@ use rules::PutAnswer;
 use rules::Refusal;
 use rules::Shape;
 use words::bytes::set_word;
+use words::bytes::word_at;
 use words::key::good_key;
 use words::key::home_place;
 use words::key::remainder_of;
@@ -18,6 +21,7 @@ use words::shape::good_table;
 use words::shape::right_guard;
 use words::shape::shape_of;
 use words::word::alone_word;
+use words::word::occupied;
 ghost use mathlib.Core.Path.{_≡_};
 ghost use Prim.Native.Nat.{_+_, _*_, _<_};
 ghost use lib.ListN.{length, set};
@@ -34,6 +38,7 @@ ghost use Rattle.theory.specs.Motion.{fillAt, finish};
 ghost use Rattle.cluster.specs.Read.{entry};
 ghost use Rattle.table.specs.declared.around.Around.the-variants.{Cluster};
 ghost use Rattle.table.specs.Around.{Looks};
+ghost use Rattle.table.specs.Filling.{Clean};
 ghost use Rattle.table.specs.Putting.{wordsLeft, addBeside, putAmong, Ready};
 
 // An empty home gets the key's one word.
@@ -136,12 +141,38 @@ fn put_at(sh: Shape, table: &mut [u8], home: Place, x: u16) -> PutAnswer
     }
 }
 
-pub fn put_key(sh: Shape, table: &mut [u8], key: u32) -> PutAnswer
+fn put_key(sh: Shape, table: &mut [u8], key: u32) -> PutAnswer
     requires { ⌜ InRange sh ⌝ ∗ ⌜ length (now table) ≡ 2 * places sh ⌝ ∗ ⌜ key < keys sh ⌝ }
     ensures { λ a. ⌜ leaves (putSays a) (wordsOf (now (table .exit)))
         ≡ wordsLeft (wordsOf (now (table .entry))) (putIn sh (wordsOf (now (table .entry))) (split sh key)) ⌝ }
 {
     put_at(sh, table, home_place(sh, key), remainder_of(sh, key))
+}
+
+// The same in a table that is known to be sound and unlocked: nothing of that is asked again.
+fn put_clean_at(sh: Shape, table: &mut [u8], home: Place, x: u16) -> PutAnswer
+    requires { ⌜ InRange sh ⌝ ∗ ⌜ length (now table) ≡ 2 * places sh ⌝ ∗ ⌜ InShape sh (entry (home .0) x) ⌝ }
+    requires { ⌜ Clean sh (wordsOf (now table)) ⌝ }
+    ensures { λ a. ⌜ leaves (putSays a) (wordsOf (now (table .exit)))
+        ≡ wordsLeft (wordsOf (now (table .entry))) (putIn sh (wordsOf (now (table .entry))) (entry (home .0) x)) ⌝ }
+{
+    let w = word_at(table, home);
+    if occupied(w) {
+        let l = left_gap(table, home);
+        let r = right_gap(table, home);
+        return put_between(sh, table, l, r, home, x);
+    } else {
+        return put_alone(table, home, x);
+    }
+}
+
+pub fn put_clean(sh: Shape, table: &mut [u8], key: u32) -> PutAnswer
+    requires { ⌜ InRange sh ⌝ ∗ ⌜ length (now table) ≡ 2 * places sh ⌝ ∗ ⌜ key < keys sh ⌝ }
+    requires { ⌜ Clean sh (wordsOf (now table)) ⌝ }
+    ensures { λ a. ⌜ leaves (putSays a) (wordsOf (now (table .exit)))
+        ≡ wordsLeft (wordsOf (now (table .entry))) (putIn sh (wordsOf (now (table .entry))) (split sh key)) ⌝ }
+{
+    put_clean_at(sh, table, home_place(sh, key), remainder_of(sh, key))
 }
 
 pub fn put(m: u32, r: u32, table: &mut [u8], key: u32) -> PutAnswer

@@ -1,144 +1,117 @@
--- `read_between` meets its contract. The invariant, `Reading`: what was seen and what is to come make the whole read.
+-- `read_between` meets its contract: the groups of earlier homes are passed over, and the key's own is read or is new.
 -- Assumes nothing.
-use Prim.Native.Nat.{_-_}
-use mathlib.Core.Path.{_∙_, ap}
+use mathlib.Core.Path.{refl, _∙_}
 use borrow.Author.Needs.{needs}
 use native.Mathlib.Omega.{arith}
 use denote.Ref.{now}
-use Rattle.rules.specs.Lists.{bitOf}
-use Rattle.cluster.specs.Homes.{home-inside}
-use Rattle.cluster.specs.Read.{entry, upTo, Reading, read-whole, reading-start, reading-step, reading-end}
+use Rattle.cluster.specs.Read.{entry}
+use Rattle.cluster.specs.Group.{homes-few, read-here, read-new}
 use Rattle.cluster.proofs.read.read_between.Statement.{statement}
 use Rattle.cluster.proofs.read.read_between.Tie as tie
 
-abbrev Inv-loop : tie.InvT-loop
-Inv-loop table r home x end seen₀ v₀ i₀ seen v i =
-    Reading (entry (home .0) x) table end (upTo (entry (home .0) x) table end seen₀ v₀ i₀) seen v i
+add-first : tie.Need-add-first
+add-first c = search needs
 
-abbrev μ-loop : tie.MeasureT-loop
-μ-loop table r home x end seen₀ v₀ i₀ seen v i = end - i
+lower-requires : tie.Need-lower-requires
+lower-requires c κs = search needs
 
-add-v : tie.Need-add-v Inv-loop μ-loop
-add-v c = omega arith
+count-homes-requires : tie.Need-count-homes-requires
+count-homes-requires c κs = search needs
 
-add-i : tie.Need-add-i Inv-loop μ-loop
-add-i c = omega arith
-
-loop-holds : tie.Need-loop-holds Inv-loop μ-loop
-loop-holds c =
-    let start = c .before .before .before in
-    reading-start _ (now (start .args .table)) (start .args .r .0) (start .args .l .0) (start .pre .1 .1)
-
-word-at-requires : tie.Need-word-at-requires Inv-loop μ-loop
-word-at-requires c κs = omega arith
-
-next-virgin-requires : tie.Need-next-virgin-requires Inv-loop μ-loop
-next-virgin-requires c κs = search needs
-
-remainder-requires : tie.Need-remainder-requires Inv-loop μ-loop
-remainder-requires c κs = search needs
-
-look-requires : tie.Need-look-requires Inv-loop μ-loop
-look-requires c κs = omega arith
-
-change-requires : tie.Need-change-requires Inv-loop μ-loop
-change-requires c κs = search needs
-
-bit-of-requires : tie.Need-bit-of-requires Inv-loop μ-loop
-bit-of-requires c κs = search needs
-
-add-v-2 : tie.Need-add-v-2 Inv-loop μ-loop
-add-v-2 c =
-    let found = c .before .before .before .before .before in
-    let turn = found .before .before in
-    let head = turn .before in
-    let start = head .before .before .before .before in
-    omega (
-      arith,
-      start .good,
-      home-inside
+pass-groups-requires : tie.Need-pass-groups-requires
+pass-groups-requires c κs =
+    let start = c .before .before .before .before in
+    let e = entry (start .args .home .0) (start .args .x) in (
+      start .pre .1 .0,
+      rw
+          (c .count-homes .ensures, c .before .lower .ensures)
+          (homes-few
+          e
           (now (start .args .table))
-          (head .loop .i)
+          (start .args .l .0)
           (start .args .r .0)
-          (head .loop .v)
-          (found .before .word-at .result)
-          (turn .loop-test .taken)
+          (start .pre .0)
           (start .pre .1 .0)
-          (found .before .word-at .ensures)
-          (head .loop .inv .owed)
-          (found .next-virgin .result .0)
-          (found .next-virgin .ensures),
+          (start .pre .1 .1)),
     )
 
-add-i-2 : tie.Need-add-i-2 Inv-loop μ-loop
-add-i-2 c = omega arith
+sub-t12 : tie.Need-sub-t12
+sub-t12 c = omega (arith, c .before .pass-groups .ensures)
 
-loop-less : tie.Need-loop-less Inv-loop μ-loop
-loop-less c = omega arith
+home-between-requires : tie.Need-home-between-requires
+home-between-requires c κs = search needs
 
-loop-again : tie.Need-loop-again Inv-loop μ-loop
-loop-again c =
-    let flagged = c .before .before in
-    let looked = flagged .before in
-    let found = looked .before .before in
-    let turn = found .before .before in
-    let head = turn .before in
-    let start = head .before .before .before .before in
-    reading-step
-    _
-    (now (start .args .table))
-    (start .args .r .0)
-    _
-    (head .loop .seen)
-    (head .loop .v)
-    (head .loop .i)
-    (head .loop .inv)
-    (turn .loop-test .taken)
-    (start .pre .1 .0)
-    (found .before .word-at .result)
-    (found .before .word-at .ensures)
-    (found .next-virgin .result .0)
-    (c .before .bit-of .result)
-    (looked .before .remainder .result)
-    (found .next-virgin .ensures)
-    (c .before .bit-of .ensures .0 ∙ ap bitOf (flagged .change .ensures))
-    (looked .before .remainder .ensures)
-    (looked .look .result)
-    (looked .look .ensures)
+read-group-requires : tie.Need-read-group-requires
+read-group-requires c κs = search needs
 
-mark-of-requires : tie.Need-mark-of-requires Inv-loop μ-loop
-mark-of-requires c κs = search needs
+read-of-requires : tie.Need-read-of-requires
+read-of-requires c κs = search needs
 
-returns : tie.Need-returns Inv-loop μ-loop
+returns : tie.Need-returns
 returns c =
-    let head = c .before .before in
-    let start = head .before .before .before .before in
-    let bs = now (start .args .table) in
-    let r = start .args .r .0 in
-    let reached = head .loop in
-    rw
-    (c .mark-of .ensures)
-    (reading-end _ bs r _ (reached .seen) (reached .v) (reached .i) (reached .inv) (c .before .loop-test .left)
-    ∙ read-whole _ bs r (start .args .l .0))
+    let tested = c .before .before in
+    let passed = tested .before .before in
+    let counted = passed .before in
+    let start = counted .before .before .before .before in
+    c .read-group .ensures
+    ∙ read-here
+    (entry (start .args .home .0) (start .args .x))
+    (now (start .args .table))
+    (start .args .l .0)
+    (start .args .r .0)
+    (start .pre .0)
+    (start .pre .1 .0)
+    (start .pre .1 .1)
+    (counted .before .lower .result .0)
+    (counted .count-homes .result)
+    (passed .pass-groups .result .0)
+    _
+    (tested .home-between .result)
+    (counted .before .lower .ensures)
+    (counted .count-homes .ensures)
+    (passed .pass-groups .ensures)
+    refl
+    (tested .home-between .ensures)
+    (c .before .if1 .taken)
+
+returns-2 : tie.Need-returns-2
+returns-2 c =
+    let tested = c .before .before in
+    let passed = tested .before .before in
+    let counted = passed .before in
+    let start = counted .before .before .before .before in
+    c .read-of .ensures
+    ∙ read-new
+    (entry (start .args .home .0) (start .args .x))
+    (now (start .args .table))
+    (start .args .l .0)
+    (start .args .r .0)
+    (start .pre .0)
+    (start .pre .1 .0)
+    (start .pre .1 .1)
+    (counted .before .lower .result .0)
+    (counted .count-homes .result)
+    (passed .pass-groups .result .0)
+    _
+    (tested .home-between .result)
+    (counted .before .lower .ensures)
+    (counted .count-homes .ensures)
+    (passed .pass-groups .ensures)
+    refl
+    (tested .home-between .ensures)
+    (c .before .if1 .left)
 
 pub read-between-spec : {M : Type 1} → statement M
 read-between-spec =
     tie.close
     (tie.spec
-    Inv-loop
-    μ-loop
-    add-v
-    add-i
-    loop-holds
-    word-at-requires
-    next-virgin-requires
-    remainder-requires
-    look-requires
-    change-requires
-    bit-of-requires
-    add-v-2
-    add-i-2
-    loop-less
-    loop-again
-    mark-of-requires
-    returns)
+    add-first
+    lower-requires
+    count-homes-requires
+    pass-groups-requires
+    sub-t12
+    home-between-requires
+    read-group-requires
+    read-of-requires
+    returns
+    returns-2)

@@ -1,52 +1,108 @@
--- `between` meets its contract: soundness before the lock.
+-- `between` meets its contract: the two ends, then the run between them.
 -- Assumes nothing.
-use mathlib.Core.Path.{sym, _∙_}
+use mathlib.Core.Path.{sym, _∙_, ap, ap₂}
+use mathlib.Core.Bool.{Bool, _||_}
 use borrow.Author.Needs.{needs}
-use native.Mathlib.Numerals.{add-one}
 use native.Mathlib.Omega.{arith}
-use Rattle.rules.specs.Shape.{places}
-use Rattle.words.specs.Range.{homes-high}
-use Rattle.table.specs.Around.{betweenOf}
+use denote.Ref.{now}
+use Rattle.rules.specs.Word.{Word, isVoid}
+use Rattle.table.specs.Around.{between-told, left-unsound, right-unsound}
 use Rattle.table.proofs.around.between.Statement.{statement}
 use Rattle.table.proofs.around.between.Tie as tie
 
-sound-between-requires : tie.Need-sound-between-requires
-sound-between-requires c κs = search needs
+abbrev isLocked : Word → Bool
+isLocked w = w .lock
 
-add-end : tie.Need-add-end
-unfolding places
-add-end c =
-    let start = c .before .before .before .before in
-    omega (arith, homes-high (start .args .sh) (start .pre .0))
+word-at-requires : tie.Need-word-at-requires
+word-at-requires c κs = search needs
 
-any-locked-requires : tie.Need-any-locked-requires
-any-locked-requires c κs = search needs
+word-at-requires-2 : tie.Need-word-at-requires-2
+word-at-requires-2 c κs = search needs
+
+is-void-requires : tie.Need-is-void-requires
+is-void-requires c κs = search needs
+
+is-void-requires-2 : tie.Need-is-void-requires-2
+is-void-requires-2 c κs = search needs
+
+check-run-requires : tie.Need-check-run-requires
+check-run-requires c κs =
+    let read = c .before .before .before .before in
+    let start = read .before .before .before in
+    let void = sym (c .before .is-void2 .ensures ∙ ap isVoid (read .word-at2 .ensures)) ∙ c .if2 .taken in
+    (start .pre .0, (start .pre .1 .1 .0, (omega (arith, start .pre), void)))
+
+lock-requires : tie.Need-lock-requires
+lock-requires c κs = search needs
+
+lock-requires-2 : tie.Need-lock-requires-2
+lock-requires-2 c κs = search needs
+
+told-requires : tie.Need-told-requires
+told-requires c κs = search needs
 
 returns : tie.Need-returns
-unfolding betweenOf
 returns c =
-    let sound = c .before .before .before in
-    rw (
-      ← add-one,
-      sym (sound .before .sound-between .ensures) ∙ sound .if1 .taken,
-      sym (c .before .any-locked .ensures) ∙ c .if2 .taken,
-    )
+    let locks = c .before in
+    let run = locks .before .before in
+    let right = run .before in
+    let left = right .before .before in
+    let read = left .before .before in
+    let start = read .before .before .before in
+    c .told .ensures
+    ∙ between-told
+    (start .args .sh)
+    (now (start .args .table))
+    (start .args .l)
+    (start .args .r)
+    (start .pre .1 .1 .0)
+    (omega (arith, start .pre))
+    (sym (left .before .is-void .ensures ∙ ap isVoid (read .before .word-at .ensures)) ∙ left .if1 .taken)
+    (sym (right .before .is-void2 .ensures ∙ ap isVoid (read .word-at2 .ensures)) ∙ right .if2 .taken)
+    (run .check-run .result)
+    (run .check-run .ensures)
+    _
+    (ap₂
+    _||_
+    (locks .before .lock .ensures ∙ ap isLocked (read .before .word-at .ensures))
+    (locks .lock2 .ensures ∙ ap isLocked (read .word-at2 .ensures)))
 
 returns-2 : tie.Need-returns-2
-unfolding betweenOf
 returns-2 c =
-    let sound = c .before .before .before in
-    rw (
-      ← add-one,
-      sym (sound .before .sound-between .ensures) ∙ sound .if1 .taken,
-      sym (c .before .any-locked .ensures) ∙ c .if2 .left,
-    )
+    let left = c .before .before in
+    let read = left .before .before in
+    let start = read .before .before .before in
+    right-unsound
+    (start .args .sh)
+    (now (start .args .table))
+    (start .args .l)
+    (start .args .r)
+    (sym (left .before .is-void .ensures ∙ ap isVoid (read .before .word-at .ensures)) ∙ left .if1 .taken)
+    (sym (c .before .is-void2 .ensures ∙ ap isVoid (read .word-at2 .ensures)) ∙ c .if2 .left)
 
 returns-3 : tie.Need-returns-3
-unfolding betweenOf
-returns-3 c = rw (sym (c .before .sound-between .ensures) ∙ c .if1 .left)
+returns-3 c =
+    let read = c .before .before in
+    let start = read .before .before .before in
+    left-unsound
+    (start .args .sh)
+    (now (start .args .table))
+    (start .args .l)
+    (start .args .r)
+    (sym (c .before .is-void .ensures ∙ ap isVoid (read .before .word-at .ensures)) ∙ c .if1 .left)
 
 pub between-spec : {M : Type 1} → statement M
 between-spec =
     tie.close
-    (tie.spec sound-between-requires add-end any-locked-requires returns returns-2 returns-3)
+    (tie.spec
+    word-at-requires
+    word-at-requires-2
+    is-void-requires
+    is-void-requires-2
+    check-run-requires
+    lock-requires
+    lock-requires-2
+    told-requires
+    returns
+    returns-2
+    returns-3)

@@ -1,10 +1,11 @@
 -- `build_in` meets its contract: whether all keys found room decides. The bytes are cleared before, and on a refusal.
 -- Assumes nothing.
-use mathlib.Core.Path.{refl, sym, _∙_, ap}
+use mathlib.Core.Path.{refl, sym, _∙_, ap, subst}
 use borrow.Author.Needs.{needs}
 use denote.Ref.{now}
 use lib.ListN.{replicate}
 use Rattle.rules.specs.Answer.{refuses, leaves}
+use Rattle.table.specs.Filling.{Clean, zeros-clean}
 use Rattle.table.specs.Building.{cleared-whole, cleared-zeros, build-done, build-full}
 use Rattle.table.proofs.build.build_in.Statement.{statement}
 use Rattle.table.proofs.build.build_in.Tie as tie
@@ -16,7 +17,12 @@ put-all-requires : tie.Need-put-all-requires
 put-all-requires c κs =
     let cleared = c .before .before .before in
     let start = cleared .before .before .before .before in
-    (start .pre .0, (cleared .clear .kept .0 ∙ start .pre .1 .0, start .pre .1 .1))
+    let sh = start .args .sh in
+    let bs = now (start .args .table) in
+    let wiped = cleared-whole bs (cleared .clear .last .0) _ refl (cleared .clear .ensures) in
+    let zero = cleared-zeros sh bs (cleared .clear .last .0) (start .pre .1 .0) wiped in
+    let clean = subst (Clean sh) (sym zero) (zeros-clean sh) in
+    (start .pre .0, (cleared .clear .kept .0 ∙ start .pre .1 .0, (start .pre .1 .1, clean)))
 
 same-length : tie.Need-same-length
 same-length c = search needs

@@ -6,11 +6,11 @@ use mathlib.Core.List.{map}
 use borrow.Author.Needs.{needs}
 use native.Mathlib.Omega.{arith}
 use denote.Ref.{now}
-use lib.ListN.{length, drop}
+use lib.ListN.{length, getD, drop}
 use Rattle.rules.specs.Bytes.{wordsOf}
 use Rattle.rules.specs.Entry.{split}
 use Rattle.table.specs.Building.{key-good, fill-passed, fill-refused, fill-ends}
-use Rattle.table.specs.Filling.{filled, fillAll}
+use Rattle.table.specs.Filling.{filled, fillAll, Clean, key-clean}
 use Rattle.table.proofs.build.put_all.Statement.{statement}
 use Rattle.table.proofs.build.put_all.Tie as tie
 
@@ -19,12 +19,13 @@ Inv-loop sh table₀ keys i₀ table i =
     (length table ≡ length table₀)
     × (fillAll sh (filled (wordsOf table)) (map (split sh) (drop i keys))
     ≡ fillAll sh (filled (wordsOf table₀)) (map (split sh) keys))
+    × Clean sh (wordsOf table)
 
 abbrev μ-loop : tie.MeasureT-loop
 μ-loop sh table₀ keys i₀ table i = length keys - i
 
 loop-holds : tie.Need-loop-holds Inv-loop μ-loop
-loop-holds c = (refl, refl)
+loop-holds c = let start = c .before .before in (refl, refl, start .pre .1 .1 .1)
 
 mul-put-fits : tie.Need-mul-put-fits Inv-loop μ-loop
 mul-put-fits c = search needs
@@ -38,8 +39,8 @@ put-fits-requires c κs =
     let head = turn .before in
     let start = head .before .before .before in
     let ks = now (start .args .keys) in
-    let low = key-good (start .args .sh) ks (head .loop .i) (turn .loop-test .taken) (start .pre .1 .1) in
-    (start .pre .0, (head .loop .inv .0 ∙ start .pre .1 .0, low))
+    let low = key-good (start .args .sh) ks (head .loop .i) (turn .loop-test .taken) (start .pre .1 .1 .0) in
+    (start .pre .0, (head .loop .inv .0 ∙ start .pre .1 .0, (low, head .loop .inv .2)))
 
 add-i : tie.Need-add-i Inv-loop μ-loop
 add-i c = omega arith
@@ -65,6 +66,22 @@ loop-again c =
           (put .put-fits .ensures)
           (c .if1 .taken)
           ∙ head .loop .inv .1,
+      key-clean
+          (start .args .sh)
+          (start .pre .0)
+          (wordsOf (head .loop .table))
+          (wordsOf (put .put-fits .last .1 .0))
+          (getD (now (start .args .keys)) (head .loop .i) 0)
+          (key-good
+          (start .args .sh)
+          (now (start .args .keys))
+          (head .loop .i)
+          (turn .loop-test .taken)
+          (start .pre .1 .1 .0))
+          (head .loop .inv .2)
+          (put .put-fits .result)
+          (put .put-fits .ensures)
+          (c .if1 .taken),
     )
 
 same-length : tie.Need-same-length Inv-loop μ-loop

@@ -8,8 +8,8 @@ use Rattle.table.specs.Filling.{hadRoom, filledIf, room-told}
 use Rattle.table.proofs.build.put_fits.Statement.{statement}
 use Rattle.table.proofs.build.put_fits.Tie as tie
 
-put-key-requires : tie.Need-put-key-requires
-put-key-requires c κs = search needs
+put-clean-requires : tie.Need-put-clean-requires
+put-clean-requires c κs = search needs
 
 enum-told : tie.Need-enum-told
 enum-told c = search needs
@@ -20,9 +20,9 @@ same-length c = search needs
 returns : tie.Need-returns
 returns c =
     let put = c .before .before .before .before in
-    let vs = wordsOf (put .put-key .last .1 .0) in
+    let vs = wordsOf (put .put-clean .last .1 .0) in
     ap (λ (a : PutAnswer). filledIf (hadRoom a) vs) (sym (c .enum-told .given .1))
-    ∙ room-told (put .put-key .result) vs _ (put .put-key .ensures)
+    ∙ room-told (put .put-clean .result) vs _ (put .put-clean .ensures)
 
 enum-told-2 : tie.Need-enum-told-2
 enum-told-2 c = search needs
@@ -33,9 +33,9 @@ same-length-2 c = search needs
 returns-2 : tie.Need-returns-2
 returns-2 c =
     let put = c .before .before .before .before in
-    let vs = wordsOf (put .put-key .last .1 .0) in
+    let vs = wordsOf (put .put-clean .last .1 .0) in
     ap (λ (a : PutAnswer). filledIf (hadRoom a) vs) (sym (c .enum-told2 .given .1))
-    ∙ room-told (put .put-key .result) vs _ (put .put-key .ensures)
+    ∙ room-told (put .put-clean .result) vs _ (put .put-clean .ensures)
 
 enum-told-3 : tie.Need-enum-told-3
 enum-told-3 c = search needs
@@ -46,15 +46,15 @@ same-length-3 c = search needs
 returns-3 : tie.Need-returns-3
 returns-3 c =
     let put = c .before .before .before .before in
-    let vs = wordsOf (put .put-key .last .1 .0) in
+    let vs = wordsOf (put .put-clean .last .1 .0) in
     ap (λ (a : PutAnswer). filledIf (hadRoom a) vs) (sym (c .enum-told3 .given .1))
-    ∙ room-told (put .put-key .result) vs _ (put .put-key .ensures)
+    ∙ room-told (put .put-clean .result) vs _ (put .put-clean .ensures)
 
 pub put-fits-spec : {M : Type 1} → statement M
 put-fits-spec =
     tie.close
     (tie.spec
-    put-key-requires
+    put-clean-requires
     enum-told
     same-length
     returns

@@ -1,0 +1,138 @@
+-- `pass_groups` meets its contract. The invariant: the groups that are left lead to the same place, and are there.
+-- Assumes nothing.
+use Prim.Native.Nat.{ℕ, _+_, _-_, _≤_, _<_}
+use mathlib.Core.Path.{_≡_, refl, sym, _∙_, ap}
+use borrow.Author.Needs.{needs}
+use native.Mathlib.Omega.{arith}
+use denote.Ref.{now}
+use lib.Seq.{slice}
+use Rattle.rules.specs.Lists.{bitOf, count}
+use Rattle.rules.specs.Bytes.{wordsOf}
+use Rattle.theory.specs.Dealt.{isChange}
+use Rattle.cluster.specs.Group.{passed, placesOf, Further, further, group-there, word-past, fewer-groups, passed-all}
+use Rattle.cluster.proofs.read.pass_groups.Statement.{statement}
+use Rattle.cluster.proofs.read.pass_groups.Tie as tie
+
+abbrev Inv-loop : tie.InvT-loop
+Inv-loop table k left₀ i₀ left i =
+    (left ≤ count isChange (slice i (placesOf table) (wordsOf table)))
+    × (i + passed (slice i (placesOf table) (wordsOf table)) left
+    ≡ i₀ + passed (slice i₀ (placesOf table) (wordsOf table)) left₀)
+
+abbrev μ-loop : tie.MeasureT-loop
+μ-loop table k left₀ i₀ left i = placesOf table - i
+
+-- the groups stand before the end of the table, too
+beyond :
+    (start : tie.Start Inv-loop μ-loop) →
+    Further (now (start .args .table)) (start .args .a .0) (start .args .r .0) (start .args .k)
+beyond start =
+    further
+    (now (start .args .table))
+    (start .args .a .0)
+    (start .args .r .0)
+    (start .args .k)
+    (start .pre .0)
+    (omega (arith, start .good))
+    (start .pre .1)
+
+loop-holds : tie.Need-loop-holds Inv-loop μ-loop
+loop-holds c =
+    let start = c .before in
+    (beyond start .few, refl)
+
+-- at each turn there is a word
+there :
+    (turn : tie.In-loop Inv-loop μ-loop) →
+    let start = turn .before .before .before in turn .before .loop .i < placesOf (now (start .args .table))
+there turn =
+    let head = turn .before in
+    let start = head .before .before in
+    group-there
+    (now (start .args .table))
+    (head .loop .i)
+    (placesOf (now (start .args .table)))
+    (head .loop .left)
+    (turn .loop-test .taken)
+    (head .loop .inv .0)
+
+word-at-requires : tie.Need-word-at-requires Inv-loop μ-loop
+word-at-requires c κs = omega (arith, there c)
+
+change-requires : tie.Need-change-requires Inv-loop μ-loop
+change-requires c κs = search needs
+
+bit-of-requires : tie.Need-bit-of-requires Inv-loop μ-loop
+bit-of-requires c κs = search needs
+
+sub-left : tie.Need-sub-left Inv-loop μ-loop
+sub-left c = omega arith
+
+add-i : tie.Need-add-i Inv-loop μ-loop
+add-i c = omega (arith, there (c .before .before .before))
+
+loop-less : tie.Need-loop-less Inv-loop μ-loop
+loop-less c = omega (arith, there (c .before .before .before))
+
+loop-again : tie.Need-loop-again Inv-loop μ-loop
+loop-again c =
+    let read = c .before .before in
+    let turn = read .before in
+    let head = turn .before in
+    let start = head .before .before in
+    let bs = now (start .args .table) in
+    let bit = c .bit-of .ensures .0 ∙ ap bitOf (c .before .change .ensures) in (
+      fewer-groups
+          bs
+          (head .loop .i)
+          (placesOf bs)
+          (there turn)
+          (omega arith)
+          (read .word-at .result)
+          (read .word-at .ensures)
+          (head .loop .left)
+          (c .bit-of .result)
+          bit
+          (head .loop .inv .0),
+      word-past
+          bs
+          (head .loop .i)
+          (placesOf bs)
+          (there turn)
+          (omega arith)
+          (read .word-at .result)
+          (read .word-at .ensures)
+          (head .loop .left)
+          (c .bit-of .result)
+          (turn .loop-test .taken)
+          bit
+          ∙ head .loop .inv .1,
+    )
+
+returns : tie.Need-returns Inv-loop μ-loop
+returns c =
+    let head = c .before in
+    let start = head .before .before in
+    let bs = now (start .args .table) in
+    let none : head .loop .left ≡ 0 = omega (arith, c .loop-test .left) in
+    sym (ap (λ (k : ℕ). head .loop .i + passed (slice (head .loop .i) (placesOf bs) (wordsOf bs)) k) none ∙ passed-all _ _)
+    ∙ head .loop .inv .1
+    ∙ ap
+    (λ (n : ℕ). start .args .a .0 + n)
+    (beyond start .same)
+
+pub pass-groups-spec : {M : Type 1} → statement M
+pass-groups-spec =
+    tie.close
+    (tie.spec
+    Inv-loop
+    μ-loop
+    loop-holds
+    word-at-requires
+    change-requires
+    bit-of-requires
+    sub-left
+    add-i
+    loop-less
+    loop-again
+    returns)

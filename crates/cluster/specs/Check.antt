@@ -1,0 +1,236 @@
+-- Soundness and locks of a run in one pass without a branch, `checked`: the words laid over one another tell whether
+-- all remainders are low and whether one is locked; each word rises to the next, and the last to the gap after it.
+-- Assumes nothing.
+use Prim.Native.Nat.{ℕ, _+_, _*_, _/_, _%_, _^_, _≤_, _<_}
+use mathlib.Core.Path.{_≡_, refl, sym, _∙_, ap, ap₂}
+use mathlib.Core.Bool.{Bool, true, false, not, _&&_, _||_, and-true, or-false, and-assoc, or-assoc}
+use mathlib.Core.List.{List, [], _∷_}
+use native.Mathlib.Nat.{zero-add, add-zero, add-assoc}
+use native.Mathlib.Omega.{arith}
+use lib.Bits.{bitOr, or-lt, or-mod, or-comm, or-add-and, and-le-r}
+use lib.Dec.{ltb, eqb}
+use lib.ListN.{length}
+use lib.Seq.{slice}
+use borrow.Author.Tests.{ltb-true, ltb-false, lt-ltb, le-ltb, eqb-true}
+use Rattle.rules.specs.declared.Shape.{Shape}
+use Rattle.rules.specs.Lists.{bitOf, count, all, any}
+use Rattle.rules.specs.Word.{Word, wordOf, isVoid}
+use Rattle.rules.specs.Bytes.{wordsOf}
+use Rattle.rules.specs.Shape.{remainders}
+use Rattle.rules.specs.Table.{at, between, endsInChange, rising, soundRun, locked}
+use Rattle.theory.specs.Dealt.{isChange, isVirgin, isLow, and-left}
+use Rattle.words.specs.Range.{some-remainders}
+use Rattle.cluster.specs.Run.{run-step, run-end, run-after}
+use Rattle.cluster.specs.declared.run.Check.{Check}
+
+unfoldable pub checkOf : Shape → List Word → Check
+checkOf sh run = record { sound = soundRun sh run; locked = locked run }
+
+-- ---- numbers laid over one another
+or-above : (a b : ℕ) → b ≤ bitOr a b
+or-above a b = omega (arith, or-add-and b a, and-le-r b a, or-comm a b)
+
+over-below : (d a b : ℕ) → ltb (bitOr a b) (2 ^ d) ≡ (ltb a (2 ^ d) && ltb b (2 ^ d))
+over-below d a b = go (ltb a (2 ^ d)) (ltb b (2 ^ d)) refl refl
+  where
+    go :
+        (s t : Bool) → ltb a (2 ^ d) ≡ s → ltb b (2 ^ d) ≡ t → ltb (bitOr a b) (2 ^ d) ≡ (s && t)
+    go true true p q = lt-ltb _ _ (or-lt d a b (ltb-true a _ p) (ltb-true b _ q))
+    go true false p q = le-ltb (bitOr a b) (2 ^ d) (omega (arith, ltb-false b (2 ^ d) q, or-above a b))
+    go false t p q =
+        le-ltb (bitOr a b) (2 ^ d) (omega (arith, ltb-false a (2 ^ d) p, or-above b a, or-comm a b))
+
+over-low :
+    (sh : Shape) (a b : ℕ) →
+    ltb (wordOf (bitOr a b) .remainder) (remainders sh)
+    ≡ (ltb (wordOf a .remainder) (remainders sh) && ltb (wordOf b .remainder) (remainders sh))
+unfolding wordOf remainders
+over-low sh a b =
+    ap (λ (n : ℕ). ltb n (2 ^ sh .r)) (or-mod a b 12) ∙ over-below (sh .r) (a % 4096) (b % 4096)
+
+locked-high : (n : ℕ) → n < 65536 → wordOf n .lock ≡ not (ltb n 32768)
+unfolding wordOf
+locked-high n small = go (ltb n 32768) refl
+  where
+    go : (b : Bool) → ltb n 32768 ≡ b → eqb (n / 32768 % 2) 1 ≡ not b
+    go true p = let low : n / 32768 % 2 ≡ 0 = omega (arith, ltb-true n _ p) in rw low
+    go false p = let high : n / 32768 % 2 ≡ 1 = omega (arith, ltb-false n _ p) in rw high
+
+pub over-small : (a b : ℕ) → a < 65536 → b < 65536 → bitOr a b < 65536
+over-small a b p q = or-lt 16 a b p q
+
+over-lock :
+    (a b : ℕ) → a < 65536 → b < 65536 → wordOf (bitOr a b) .lock ≡ (wordOf a .lock || wordOf b .lock)
+over-lock a b p q =
+    locked-high (bitOr a b) (over-small a b p q)
+    ∙ ap not (over-below 15 a b)
+    ∙ either (ltb a 32768) (ltb b 32768)
+    ∙ ap₂ _||_ (sym (locked-high a p)) (sym (locked-high b q))
+  where
+    either : (s t : Bool) → not (s && t) ≡ (not s || not t)
+    either true t = refl
+    either false t = refl
+
+-- ---- a word and the next
+unfoldable pub rises : Word → Word → Bool
+rises v w = v .change || ltb (v .remainder) (w .remainder)
+
+abbrev first : Word → List Word → Word
+first g [] = g
+first g (w ∷ ws) = w
+
+-- each word of a run rises to the next, the last to the gap g
+unfoldable pub risesTo : Word → List Word → Bool
+risesTo g [] = true
+risesTo g (w ∷ ws) = rises w (first g ws) && risesTo g ws
+
+rises-void : (g : Word) (w : Word) → g .remainder ≡ 0 → rises w g ≡ w .change
+unfolding rises
+rises-void g w none = rw none (go (w .change))
+  where
+    go : (b : Bool) → (b || ltb (w .remainder) 0) ≡ b
+    go true = refl
+    go false = le-ltb (w .remainder) 0 (omega arith)
+
+-- where the gap is void, that says that the run rises and ends in change
+rises-ends : (g : Word) (ws : List Word) → g .remainder ≡ 0 → risesTo g ws ≡ (endsInChange ws && rising ws)
+unfolding risesTo endsInChange rising rises
+rises-ends g [] none = refl
+rises-ends g (w ∷ []) none = ap (λ (b : Bool). b && true) (rises-void g w none)
+rises-ends g (w ∷ v ∷ ws) none =
+    ap (λ (b : Bool). rises w v && b) (rises-ends g (v ∷ ws) none)
+    ∙ swap (rises w v) (endsInChange (v ∷ ws)) (rising (v ∷ ws))
+  where
+    swap : (a b c : Bool) → (a && (b && c)) ≡ (b && (a && c))
+    swap true b c = refl
+    swap false true c = refl
+    swap false false c = refl
+
+-- ---- the pass: what is known of the words behind, and the words ws to come
+unfoldable pub checked : Shape → Word → Bool → ℕ → ℕ → ℕ → List Word → Check
+checked sh g up over n m ws =
+    record {
+      sound =
+          (up && risesTo g ws)
+          && (ltb (wordOf over .remainder) (remainders sh) && all (isLow (remainders sh)) ws)
+          && eqb (n + count isVirgin ws) (m + count isChange ws);
+      locked = wordOf over .lock || locked ws;
+    }
+
+pub check-word :
+    (sh : Shape) (g : Word) (up : Bool) (over n m w : ℕ) (ws : List Word) → over < 65536 → w < 65536 →
+    checked sh g up over n m (wordOf w ∷ ws)
+    ≡ checked
+    sh
+    g
+    (up && rises (wordOf w) (first g ws))
+    (bitOr over w)
+    (n + bitOf (wordOf w .virgin))
+    (m + bitOf (wordOf w .change))
+    ws
+unfolding checked risesTo count all locked any
+check-word sh g up over n m w ws small low =
+    rw (
+      over-low sh over w,
+      over-lock over w small low,
+      and-assoc up (rises (wordOf w) (first g ws)) (risesTo g ws),
+      and-assoc
+          (ltb (wordOf over .remainder) (remainders sh))
+          (ltb (wordOf w .remainder) (remainders sh))
+          (all (isLow (remainders sh)) ws),
+      or-assoc (wordOf over .lock) (wordOf w .lock) (locked ws),
+      add-assoc n (bitOf (wordOf w .virgin)) (count isVirgin ws),
+      add-assoc m (bitOf (wordOf w .change)) (count isChange ws),
+    )
+
+pub check-start :
+    (sh : Shape) (g : Word) (ws : List Word) → g .remainder ≡ 0 →
+    checked sh g true 0 0 0 ws ≡ checkOf sh ws
+unfolding checked checkOf soundRun wordOf
+check-start sh g ws none =
+    rw (
+      rises-ends g ws none,
+      lt-ltb 0 (remainders sh) (some-remainders sh),
+      zero-add (count isVirgin ws),
+      zero-add (count isChange ws),
+    )
+    (ap
+    (λ (b : Bool). record { sound = b; locked = locked ws })
+    (order
+    (endsInChange ws)
+    (rising ws)
+    (all (isLow (remainders sh)) ws)
+    (eqb (count isVirgin ws) (count isChange ws))))
+  where
+    order : (ends rise low even : Bool) → ((ends && rise) && low && even) ≡ (even && ends && (low && rise))
+    order true true true true = refl
+    order true true true false = refl
+    order true true false true = refl
+    order true true false false = refl
+    order true false true true = refl
+    order true false true false = refl
+    order true false false true = refl
+    order true false false false = refl
+    order false rise low true = refl
+    order false rise low false = refl
+
+pub check-end :
+    (sh : Shape) (g : Word) (up : Bool) (over n m : ℕ) →
+    checked sh g up over n m []
+    ≡ record { sound = up && ltb (wordOf over .remainder) (remainders sh) && eqb n m; locked = wordOf over .lock }
+unfolding checked risesTo count all locked any
+check-end sh g up over n m =
+    rw (
+      and-true up,
+      and-true (ltb (wordOf over .remainder) (remainders sh)),
+      or-false (wordOf over .lock),
+      add-zero n,
+      add-zero m,
+    )
+
+-- ---- the same on a table
+module _ (sh : Shape) (bs : List ℕ) (i r : ℕ) where
+  next-word :
+      i < r → 2 * r + 1 < length bs → first (at (wordsOf bs) r) (slice (i + 1) r (wordsOf bs)) ≡ at (wordsOf bs) (i + 1)
+  next-word lt within = go (ltb (i + 1) r) refl
+    where
+      go :
+          (b : Bool) → ltb (i + 1) r ≡ b →
+          first (at (wordsOf bs) r) (slice (i + 1) r (wordsOf bs)) ≡ at (wordsOf bs) (i + 1)
+      go true h =
+          ap (first (at (wordsOf bs) r)) (run-step bs (i + 1) r (ltb-true (i + 1) r h) (omega arith))
+      go false h =
+          let end : i + 1 ≡ r = omega (arith, ltb-false (i + 1) r h) in
+          ap (first (at (wordsOf bs) r)) (run-end bs (i + 1) r (omega arith))
+          ∙ ap (at (wordsOf bs)) (sym end)
+
+  pub check-passed :
+      (up : Bool) (over n m w v : ℕ) → i < r → 2 * r + 1 < length bs →
+      wordOf w ≡ at (wordsOf bs) i → wordOf v ≡ at (wordsOf bs) (i + 1) → over < 65536 → w < 65536 →
+      (t : Bool) → t ≡ rises (wordOf w) (wordOf v) →
+      (x y : ℕ) → x ≡ bitOf (wordOf w .virgin) → y ≡ bitOf (wordOf w .change) →
+      checked sh (at (wordsOf bs) r) (up && t) (bitOr over w) (n + x) (m + y) (slice (i + 1) r (wordsOf bs))
+      ≡ checked sh (at (wordsOf bs) r) up over n m (slice i r (wordsOf bs))
+  check-passed up over n m w v lt within word next small low t rise x y p q =
+      rw (rise, p, q, next)
+      (rw (run-step bs i r lt (omega arith), ← word, ← next-word lt within)
+      (sym
+      (check-word sh (at (wordsOf bs) r) up over n m w (slice (i + 1) r (wordsOf bs)) small low)))
+
+  pub check-ended :
+      (up : Bool) (over n m : ℕ) → r ≤ i →
+      checked sh (at (wordsOf bs) r) up over n m (slice i r (wordsOf bs))
+      ≡ record { sound = up && ltb (wordOf over .remainder) (remainders sh) && eqb n m; locked = wordOf over .lock }
+  check-ended up over n m h = rw (run-end bs i r h) (check-end sh (at (wordsOf bs) r) up over n m)
+
+void-remainder : (w : Word) → isVoid w ≡ true → w .remainder ≡ 0
+unfolding isVoid
+void-remainder w e = eqb-true (w .remainder) 0 (and-left (eqb (w .remainder) 0) _ e)
+
+pub check-begun :
+    (sh : Shape) (bs : List ℕ) (l r : ℕ) → isVoid (at (wordsOf bs) r) ≡ true →
+    checked sh (at (wordsOf bs) r) true 0 0 0 (slice (l + 1) r (wordsOf bs))
+    ≡ checkOf sh (between (wordsOf bs) l r)
+check-begun sh bs l r void =
+    rw (run-after bs l r)
+    (check-start sh (at (wordsOf bs) r) (between (wordsOf bs) l r) (void-remainder (at (wordsOf bs) r) void))

@@ -1,0 +1,583 @@
+-- A read by the groups: the groups of earlier homes are passed over by their change bits, `passed`; then the key's own
+-- group is read, `groupRead`; later ones say nothing of the key. `read-grouped`: that is what a read gives.
+-- Assumes nothing.
+use Prim.Native.Nat.{ℕ, zero, suc, _+_, _-_, _*_, _/_, _≤_, _<_, min}
+use mathlib.Core.Path.{_≡_, refl, sym, _∙_, ap, ap₂}
+use mathlib.Core.Bool.{Bool, true, false, cond, _&&_}
+use mathlib.Core.List.{List, [], _∷_, _++_}
+use native.Mathlib.Numerals.{add-one}
+use native.Mathlib.Nat.{add-zero}
+use native.Mathlib.Omega.{arith}
+use lib.ListN.{length, take, drop}
+use lib.Seq.{slice, length-slice, drop-drop}
+use lib.Dec.{ltb}
+use borrow.Author.Tests.{ltb-true, ltb-false}
+use Rattle.rules.specs.Lists.{bitOf, count}
+use Rattle.rules.specs.Word.{Word, wordOf}
+use Rattle.rules.specs.Bytes.{wordsOf}
+use Rattle.rules.specs.Entry.{Entry}
+use Rattle.rules.specs.Table.{at, between, virginPlaces, due, deal, entriesBetween}
+use Rattle.theory.specs.Dealt.{isChange, isVirgin, and-left, and-right, ends-counted}
+use Rattle.theory.specs.RunLaws.{virgin-count}
+use Rattle.cluster.specs.Scan.{words-count}
+use Rattle.cluster.specs.Run.{run-step, run-end}
+use Rattle.cluster.specs.Homes.{homesFrom, home-passed, home-met, home-end, Housed, Owed, housed-owed, owed-next}
+use Rattle.cluster.specs.Read.{readOf, entry, look, look-before, look-beyond, after, unseen}
+use Rattle.cluster.specs.Read.{after-step, after-end, read-whole}
+use Rattle.cluster.specs.declared.read.Read.{Read}
+use Rattle.cluster.specs.declared.read.Seen.{Seen}
+
+-- how many words the first k groups have
+abbrev pastOne : Bool → ℕ → (ℕ → ℕ) → ℕ
+pastOne b zero rest = 0
+pastOne b (suc k) rest = suc (rest (cond b k (suc k)))
+
+unfoldable pub passed : List Word → ℕ → ℕ
+passed [] k = 0
+passed (w ∷ ws) k = pastOne (w .change) k (λ (j : ℕ). passed ws j)
+
+-- n keys more were seen, all of earlier homes
+abbrev pub more : ℕ → Seen → Seen
+more n s = record { held = s .held; smaller = s .smaller + n; grouped = s .grouped; largest = s .largest }
+
+-- what was seen, as a read
+abbrev pub readSeen : Seen → Read
+readSeen s = record { held = s .held; smaller = s .smaller; mark = cond (s .grouped) (cond (s .largest) 1 0) 2 }
+
+-- the words in front are the key's own group
+unfoldable pub groupRead : Entry → Seen → List Word → Read
+groupRead e s [] = readSeen s
+groupRead e s (w ∷ ws) =
+    cond (w .change)
+    (readSeen (look e (entry (e .home) (w .remainder)) s))
+    (groupRead e (look e (entry (e .home) (w .remainder)) s) ws)
+
+-- ---- homes before a place, homes after it
+pub data Below (c : ℕ) : List ℕ → Type 0 where
+  below-none : Below c []
+  below-next : {h : ℕ} {hs : List ℕ} → h < c → Below c hs → Below c (h ∷ hs)
+
+pub data Above (c : ℕ) : List ℕ → Type 0 where
+  above-none : Above c []
+  above-next : {h : ℕ} {hs : List ℕ} → c < h → Above c hs → Above c (h ∷ hs)
+
+virgins-below : (c a : ℕ) (us : List Word) → a + length us ≤ c → Below c (virginPlaces a us)
+unfolding virginPlaces
+virgins-below c a [] h = below-none
+virgins-below c a (w ∷ us) h = go (w .virgin) (virgins-below c (suc a) us (omega arith))
+  where
+    go :
+        (b : Bool) → Below c (virginPlaces (suc a) us) →
+        Below c (cond b (a ∷ virginPlaces (suc a) us) (virginPlaces (suc a) us))
+    go true rest = let low : a < c = omega arith in below-next low rest
+    go false rest = rest
+
+virgins-none : (c a : ℕ) → Below c (virginPlaces a [])
+unfolding virginPlaces
+virgins-none c a = below-none
+
+virgins-above : (c b : ℕ) (vs : List Word) → c < b → Above c (virginPlaces b vs)
+unfolding virginPlaces
+virgins-above c b [] h = above-none
+virgins-above c b (w ∷ vs) h = go (w .virgin) (virgins-above c (suc b) vs (omega arith))
+  where
+    go :
+        (t : Bool) → Above c (virginPlaces (suc b) vs) →
+        Above c (cond t (b ∷ virginPlaces (suc b) vs) (virginPlaces (suc b) vs))
+    go true rest = above-next h rest
+    go false rest = rest
+
+virgins-append :
+    (a : ℕ) (us vs : List Word) → virginPlaces a (us ++ vs) ≡ virginPlaces a us ++ virginPlaces (a + length us) vs
+unfolding virginPlaces
+virgins-append a [] vs = ap (λ (n : ℕ). virginPlaces n vs) (sym (add-zero a))
+virgins-append a (w ∷ us) vs = go (w .virgin) (rw (next a us) at (virgins-append (suc a) us vs))
+  where
+    next : (a : ℕ) (us : List Word) → suc a + length us ≡ a + suc (length us)
+    next a us = omega arith
+
+    go :
+        (b : Bool) →
+        virginPlaces (suc a) (us ++ vs) ≡ virginPlaces (suc a) us ++ virginPlaces (a + suc (length us)) vs →
+        cond b (a ∷ virginPlaces (suc a) (us ++ vs)) (virginPlaces (suc a) (us ++ vs))
+        ≡ cond b (a ∷ virginPlaces (suc a) us) (virginPlaces (suc a) us) ++ virginPlaces (a + suc (length us)) vs
+    go true e = ap (λ (hs : List ℕ). a ∷ hs) e
+    go false e = e
+
+-- ---- groups of earlier homes
+passed-none : (ws : List Word) → passed ws 0 ≡ 0
+unfolding passed
+passed-none [] = refl
+passed-none (w ∷ ws) = refl
+
+pub record Passed (e : Entry) (s : Seen) (n : ℕ) (hs gs : List ℕ) (ws : List Word) : Type 0 where
+  pub same : after e s (deal (hs ++ gs) ws) ≡ after e (more n s) (deal gs (drop n ws))
+  pub owed : Owed gs (drop n ws)
+
+more-none : (s : Seen) → more 0 s ≡ s
+more-none s = rw (add-zero (s .smaller))
+
+more-one : (n : ℕ) (s : Seen) → more n (more 1 s) ≡ more (suc n) s
+more-one n s =
+    ap
+    (λ (k : ℕ). record { held = s .held; smaller = k; grouped = s .grouped; largest = s .largest })
+    (next (s .smaller) n)
+  where
+    next : (k n : ℕ) → k + 1 + n ≡ k + suc n
+    next k n = omega arith
+
+pass-none : (e : Entry) (s : Seen) (gs : List ℕ) (ws : List Word) → Owed gs ws → Passed e s 0 [] gs ws
+pass-none e s gs ws o =
+    record { same = ap (λ (t : Seen). after e t (deal gs ws)) (sym (more-none s)); owed = o }
+
+-- a word of a group whose home is earlier
+pass-word :
+    (e : Entry) (s : Seen) (n h : ℕ) (hs gs ks : List ℕ) (w : Word) (ws : List Word) → h < e .home →
+    due (w .change) (h ∷ (hs ++ gs)) ≡ ks ++ gs → Passed e (more 1 s) n ks gs ws →
+    Passed e s (suc n) (h ∷ hs) gs (w ∷ ws)
+unfolding deal
+pass-word e s n h hs gs ks w ws lt homes rest =
+    record {
+      same =
+          sym (after-step e (entry h (w .remainder)) s _)
+          ∙ ap₂
+          (λ (t : Seen) (js : List ℕ). after e t (deal js ws))
+          (look-before e (entry h (w .remainder)) s lt)
+          homes
+          ∙ rest .same
+          ∙ ap (λ (t : Seen). after e t (deal gs (drop n ws))) (more-one n s);
+      owed = rest .owed;
+    }
+
+pub pass-groups :
+    (e : Entry) (gs : List ℕ) (ws : List Word) (s : Seen) (hs : List ℕ) → Below (e .home) hs → Owed (hs ++ gs) ws →
+    Passed e s (passed ws (length hs)) hs gs ws
+unfolding passed count
+pass-groups e gs [] s [] low o = pass-none e s gs [] o
+pass-groups e gs [] s (h ∷ hs) low o = absurd (omega (arith, o .homes))
+pass-groups e gs (w ∷ ws) s [] low o = pass-none e s gs (w ∷ ws) o
+pass-groups e gs (w ∷ ws) s (h ∷ hs) (below-next lt low) o =
+    go
+    (w .change)
+    refl
+    (owed-next (h ∷ (hs ++ gs)) w ws o)
+    (λ (ks : List ℕ) (b : Below (e .home) ks) (next : Owed (ks ++ gs) ws). pass-groups e gs ws (more 1 s) ks b next)
+  where
+    go :
+        (b : Bool) → w .change ≡ b → Owed (due b (h ∷ (hs ++ gs))) ws →
+        ((ks : List ℕ) → Below (e .home) ks → Owed (ks ++ gs) ws → Passed e (more 1 s) (passed ws (length ks)) ks gs ws) →
+        Passed e s (pastOne b (suc (length hs)) (λ (j : ℕ). passed ws j)) (h ∷ hs) gs (w ∷ ws)
+    go true c next rest =
+        pass-word e s _ h hs gs hs w ws lt (ap (λ (t : Bool). due t (h ∷ (hs ++ gs))) c) (rest hs low next)
+    go false c next rest =
+        pass-word
+        e
+        s
+        _
+        h
+        hs
+        gs
+        (h ∷ hs)
+        w
+        ws
+        lt
+        (ap (λ (t : Bool). due t (h ∷ (hs ++ gs))) c)
+        (rest (h ∷ hs) (below-next lt low) next)
+
+-- ---- groups of later homes, and the key's own
+pub pass-later :
+    (e : Entry) (s : Seen) (ws : List Word) (hs : List ℕ) → Above (e .home) hs → Owed hs ws →
+    after e s (deal hs ws) ≡ readSeen s
+unfolding count deal
+pass-later e s [] hs high o = after-end e s
+pass-later e s (w ∷ ws) [] high o = absurd (omega (arith, o .homes, ends-counted w ws (o .ended)))
+pass-later e s (w ∷ ws) (h ∷ hs) (above-next lt high) o =
+    sym (after-step e (entry h (w .remainder)) s _)
+    ∙ ap (λ (t : Seen). after e t (deal (due (w .change) (h ∷ hs)) ws)) (look-beyond e (entry h (w .remainder)) s lt)
+    ∙ pass-later e s ws (due (w .change) (h ∷ hs)) (still (w .change)) (owed-next (h ∷ hs) w ws o)
+  where
+    still : (b : Bool) → Above (e .home) (due b (h ∷ hs))
+    still true = high
+    still false = above-next lt high
+
+pub read-group :
+    (e : Entry) (hs : List ℕ) (ws : List Word) (s : Seen) → Above (e .home) hs → Owed (e .home ∷ hs) ws →
+    after e s (deal (e .home ∷ hs) ws) ≡ groupRead e s ws
+unfolding groupRead deal
+read-group e hs [] s high o = after-end e s
+read-group e hs (w ∷ ws) s high o =
+    sym (after-step e (entry (e .home) (w .remainder)) s _)
+    ∙ go
+    (w .change)
+    (owed-next (e .home ∷ hs) w ws o)
+    (λ (next : Owed (e .home ∷ hs) ws). read-group e hs ws (look e (entry (e .home) (w .remainder)) s) high next)
+  where
+    now-seen : Seen
+    now-seen = look e (entry (e .home) (w .remainder)) s
+
+    go :
+        (b : Bool) → Owed (due b (e .home ∷ hs)) ws →
+        (Owed (e .home ∷ hs) ws → after e now-seen (deal (e .home ∷ hs) ws) ≡ groupRead e now-seen ws) →
+        after e now-seen (deal (due b (e .home ∷ hs)) ws) ≡ cond b (readSeen now-seen) (groupRead e now-seen ws)
+    go true next rest = pass-later e now-seen ws hs high next
+    go false next rest = rest next
+
+-- ---- the loops: homes counted, groups passed over, the key's own group read
+module _ (bs : List ℕ) (i r : ℕ) where
+  -- n homes are counted, and those from place i on are to come
+  pub homes-counted :
+      (n w x : ℕ) → i < r → 2 * r ≤ length bs → wordOf w ≡ at (wordsOf bs) i → x ≡ bitOf (wordOf w .virgin) →
+      n + x + count isVirgin (slice (i + 1) r (wordsOf bs)) ≡ n + count isVirgin (slice i r (wordsOf bs))
+  unfolding count
+  homes-counted n w x lt within word bit = rw (run-step bs i r lt within, ← word, ← bit) (omega arith)
+
+  pub homes-end : (n : ℕ) → r ≤ i → n + count isVirgin (slice i r (wordsOf bs)) ≡ n
+  unfolding count
+  homes-end n h = rw (run-end bs i r h) (add-zero n)
+
+  -- where k groups are to be passed over, there is a word
+  pub group-there : (k : ℕ) → 0 < k → k ≤ count isChange (slice i r (wordsOf bs)) → i < r
+  unfolding count
+  group-there k some few = go (ltb i r) refl
+    where
+      go : (b : Bool) → ltb i r ≡ b → i < r
+      go true e = ltb-true i r e
+      go false e = absurd (omega (arith, rw (run-end bs i r (ltb-false i r e)) at few))
+
+  module _ (lt : i < r) (within : 2 * r ≤ length bs) (w : ℕ) (word : wordOf w ≡ at (wordsOf bs) i) where
+    pub word-past :
+        (k x : ℕ) → 0 < k → x ≡ bitOf (wordOf w .change) →
+        i + 1 + passed (slice (i + 1) r (wordsOf bs)) (k - x) ≡ i + passed (slice i r (wordsOf bs)) k
+    unfolding passed
+    word-past k x some bit = rw (run-step bs i r lt within, ← word, bit) (go (wordOf w .change) k some)
+      where
+        go :
+            (b : Bool) (k : ℕ) → 0 < k →
+            i + 1 + passed (slice (i + 1) r (wordsOf bs)) (k - bitOf b)
+            ≡ i + pastOne b k (λ (j : ℕ). passed (slice (i + 1) r (wordsOf bs)) j)
+        go b zero h = absurd (omega arith)
+        go true (suc k) h = let all : suc k - 1 ≡ k = omega arith in rw all (omega arith)
+        go false (suc k) h = let all : suc k - 0 ≡ suc k = omega arith in rw all (omega arith)
+
+    pub fewer-groups :
+        (k x : ℕ) → x ≡ bitOf (wordOf w .change) → k ≤ count isChange (slice i r (wordsOf bs)) →
+        k - x ≤ count isChange (slice (i + 1) r (wordsOf bs))
+    unfolding count
+    fewer-groups k x bit few = omega (arith, bit, rw (run-step bs i r lt within, ← word) at few)
+
+    module _ (e : Entry) (s : Seen) (y : ℕ) (remainder-is : y ≡ wordOf w .remainder) where
+      pub group-goes :
+          wordOf w .change ≡ false →
+          groupRead e (look e (entry (e .home) y) s) (slice (i + 1) r (wordsOf bs))
+          ≡ groupRead e s (slice i r (wordsOf bs))
+      unfolding groupRead
+      group-goes c = rw (run-step bs i r lt within, ← word, c, remainder-is)
+
+      pub group-ends :
+          wordOf w .change ≡ true →
+          readSeen (look e (entry (e .home) y) s) ≡ groupRead e s (slice i r (wordsOf bs))
+      unfolding groupRead
+      group-ends c = rw (run-step bs i r lt within, ← word, c, remainder-is)
+
+  pub group-stops : (e : Entry) (s : Seen) → r ≤ i → readSeen s ≡ groupRead e s (slice i r (wordsOf bs))
+  unfolding groupRead
+  group-stops e s h = rw (run-end bs i r h)
+
+pub passed-all : (i : ℕ) (ws : List Word) → i + passed ws 0 ≡ i
+passed-all i ws = rw (passed-none ws) (add-zero i)
+
+-- ---- the run of a table between l and r
+pub split-run :
+    (bs : List ℕ) (r : ℕ) → 2 * r ≤ length bs → (n a q : ℕ) → q - a ≡ n → a ≤ q → q ≤ r →
+    slice a r (wordsOf bs) ≡ slice a q (wordsOf bs) ++ slice q r (wordsOf bs)
+split-run bs r within zero a q n h k =
+    let same : a ≡ q = omega arith in
+    rw (run-end bs a q (omega arith)) (ap (λ (i : ℕ). slice i r (wordsOf bs)) same)
+split-run bs r within (suc n) a q e h k =
+    rw
+    (run-step bs a r (omega arith) within, run-step bs a q (omega arith) (omega arith))
+    (ap (λ (ws : List Word). at (wordsOf bs) a ∷ ws) (split-run bs r within n (a + 1) q (omega arith) (omega arith) k))
+
+counts-append : (us vs : List Word) → count isVirgin us ≤ count isVirgin (us ++ vs)
+unfolding count
+counts-append [] vs = omega arith
+counts-append (u ∷ us) vs = omega (arith, counts-append us vs)
+
+-- ---- a pass over groups does not look beyond them, so it need not know where the run ends
+passed-front : (us vs : List Word) (k : ℕ) → k ≤ count isChange us → passed (us ++ vs) k ≡ passed us k
+unfolding passed count
+passed-front [] vs zero few = passed-none vs
+passed-front [] vs (suc k) few = absurd (omega arith)
+passed-front (u ∷ us) vs zero few = refl
+passed-front (u ∷ us) vs (suc k) few =
+    go (u .change) few (λ (j : ℕ) (h : j ≤ count isChange us). passed-front us vs j h)
+  where
+    go :
+        (b : Bool) → suc k ≤ bitOf b + count isChange us →
+        ((j : ℕ) → j ≤ count isChange us → passed (us ++ vs) j ≡ passed us j) →
+        pastOne b (suc k) (λ (j : ℕ). passed (us ++ vs) j) ≡ pastOne b (suc k) (λ (j : ℕ). passed us j)
+    go true h rest = ap suc (rest k (omega arith))
+    go false h rest = ap suc (rest (suc k) (omega arith))
+
+-- where a table's places end, or at least those that have a number
+abbrev pub placesOf : List ℕ → ℕ
+placesOf bs = min (length bs / 2) 4294967295
+
+pub record Further (bs : List ℕ) (a r k : ℕ) : Type 0 where
+  pub same : passed (slice a (placesOf bs) (wordsOf bs)) k ≡ passed (slice a r (wordsOf bs)) k
+  pub few : k ≤ count isChange (slice a (placesOf bs) (wordsOf bs))
+
+changes-append : (us vs : List Word) → count isChange us ≤ count isChange (us ++ vs)
+unfolding count
+changes-append [] vs = omega arith
+changes-append (u ∷ us) vs = omega (arith, changes-append us vs)
+
+pub further :
+    (bs : List ℕ) (a r k : ℕ) → 2 * r ≤ length bs → r ≤ 4294967295 →
+    k ≤ count isChange (slice a r (wordsOf bs)) → Further bs a r k
+unfolding count
+further bs a r k within small few = go (ltb a r) refl
+  where
+    go : (b : Bool) → ltb a r ≡ b → Further bs a r k
+    go false h =
+        let none : k ≡ 0 = omega (arith, rw (run-end bs a r (ltb-false a r h)) at few) in
+        rw none (record { same = passed-none _ ∙ sym (passed-none _); few = omega arith })
+    go true h =
+        let lt : a < r = ltb-true a r h in
+        let cut = split-run bs (placesOf bs) (omega arith) (r - a) a r refl (omega arith) (omega arith) in
+        record {
+          same =
+              ap (λ (ws : List Word). passed ws k) cut
+              ∙ passed-front (slice a r (wordsOf bs)) (slice r (placesOf bs) (wordsOf bs)) k few;
+          few =
+              omega (
+                arith,
+                ap (count isChange) cut,
+                changes-append (slice a r (wordsOf bs)) (slice r (placesOf bs) (wordsOf bs)),
+              );
+        }
+
+module _ (e : Entry) (bs : List ℕ) (l r : ℕ) (lt : l < r) (within : 2 * r ≤ length bs)
+    (housed : Housed (between (wordsOf bs) l r))
+  where
+    owed : Owed (virginPlaces (l + 1) (slice (l + 1) r (wordsOf bs))) (slice (l + 1) r (wordsOf bs))
+    owed = rw add-one (housed-owed (suc l) (between (wordsOf bs) l r) housed)
+
+    run-size : l + 1 + length (slice (l + 1) r (wordsOf bs)) ≡ r
+    run-size = omega (arith, length-slice (l + 1) r (wordsOf bs) (omega (arith, words-count bs)))
+
+    -- the groups with homes before q are passed over
+    module _ (q : ℕ) (after-l : l + 1 ≤ q) (to-r : q ≤ r)
+        (low : Below (e .home) (virginPlaces (l + 1) (slice (l + 1) q (wordsOf bs))))
+      where
+        abbrev words : ℕ
+        words = passed (slice (l + 1) r (wordsOf bs)) (count isVirgin (slice (l + 1) q (wordsOf bs)))
+
+        size : l + 1 + length (slice (l + 1) q (wordsOf bs)) ≡ q
+        size = omega (arith, length-slice (l + 1) q (wordsOf bs) (omega (arith, words-count bs)))
+
+        split-homes :
+            virginPlaces (l + 1) (slice (l + 1) r (wordsOf bs))
+            ≡ virginPlaces (l + 1) (slice (l + 1) q (wordsOf bs)) ++ homesFrom (wordsOf bs) r q
+        split-homes =
+            ap (virginPlaces (l + 1)) (split-run bs r within (q - (l + 1)) (l + 1) q refl after-l to-r)
+            ∙ virgins-append (l + 1) (slice (l + 1) q (wordsOf bs)) (slice q r (wordsOf bs))
+            ∙ ap
+            (λ (n : ℕ). virginPlaces (l + 1) (slice (l + 1) q (wordsOf bs)) ++ virginPlaces n (slice q r (wordsOf bs)))
+            size
+
+        past :
+            Passed
+            e
+            unseen
+            words
+            (virginPlaces (l + 1) (slice (l + 1) q (wordsOf bs)))
+            (homesFrom (wordsOf bs) r q)
+            (slice (l + 1) r (wordsOf bs))
+        past =
+            rw
+            (← virgin-count (l + 1) (slice (l + 1) q (wordsOf bs)))
+            (pass-groups
+            e
+            (homesFrom (wordsOf bs) r q)
+            (slice (l + 1) r (wordsOf bs))
+            unseen
+            (virginPlaces (l + 1) (slice (l + 1) q (wordsOf bs)))
+            low
+            (rw split-homes at owed))
+
+        rest :
+            after e (more words unseen) (deal (homesFrom (wordsOf bs) r q) (drop words (slice (l + 1) r (wordsOf bs))))
+            ≡ readOf e (entriesBetween (wordsOf bs) l r)
+        rest =
+            sym (past .same)
+            ∙ ap (λ (hs : List ℕ). after e unseen (deal hs (slice (l + 1) r (wordsOf bs)))) (sym split-homes)
+            ∙ read-whole e bs r l
+
+        none-read :
+            Above (e .home) (homesFrom (wordsOf bs) r q) →
+            readSeen (more words unseen) ≡ readOf e (entriesBetween (wordsOf bs) l r)
+        none-read high = sym (pass-later e (more words unseen) _ _ high (past .owed)) ∙ rest
+
+        group-read :
+            (hs : List ℕ) → homesFrom (wordsOf bs) r q ≡ e .home ∷ hs → Above (e .home) hs →
+            groupRead e (more words unseen) (slice (l + 1 + words) r (wordsOf bs))
+            ≡ readOf e (entriesBetween (wordsOf bs) l r)
+        group-read hs first high =
+            ap (groupRead e (more words unseen)) (sym (drop-drop words (l + 1) (take r (wordsOf bs))))
+            ∙ sym (read-group e hs _ (more words unseen) high (rw first at (past .owed)))
+            ∙ ap
+            (λ (gs : List ℕ). after e (more words unseen) (deal gs (drop words (slice (l + 1) r (wordsOf bs)))))
+            (sym first)
+            ∙ rest
+
+    -- the homes between l and the key's own
+    abbrev pub homesBefore : ℕ
+    homesBefore = count isVirgin (slice (l + 1) (min (e .home) r) (wordsOf bs))
+
+    -- what was seen when the groups of earlier homes are passed over, and where the key's own group begins or would
+    abbrev pub groupStart : ℕ
+    groupStart = passed (slice (l + 1) r (wordsOf bs)) homesBefore
+
+    -- there are as many groups
+    pub homes-few : homesBefore ≤ count isChange (slice (l + 1) r (wordsOf bs))
+    unfolding count
+    homes-few = go (ltb (l + 1) (min (e .home) r)) refl
+      where
+        all-homes : count isVirgin (slice (l + 1) r (wordsOf bs)) ≡ count isChange (slice (l + 1) r (wordsOf bs))
+        all-homes = rw add-one (housed .as-many)
+
+        go : (b : Bool) → ltb (l + 1) (min (e .home) r) ≡ b → homesBefore ≤ count isChange (slice (l + 1) r (wordsOf bs))
+        go false h = rw (run-end bs (l + 1) (min (e .home) r) (ltb-false _ _ h)) (omega arith)
+        go true h =
+            let q = min (e .home) r in
+            let inside : l + 1 < q = ltb-true _ _ h in
+            let cut = split-run bs r within (q - (l + 1)) (l + 1) q refl (omega arith) (omega arith) in
+            omega (
+              arith,
+              all-homes,
+              counts-append (slice (l + 1) q (wordsOf bs)) (slice q r (wordsOf bs)),
+              ap (count isVirgin) cut,
+            )
+
+    -- the key's home stands before the run, after it, or in it
+    module _ (early : e .home ≤ l) where
+      empty : slice (l + 1) (min (e .home) r) (wordsOf bs) ≡ slice (l + 1) (l + 1) (wordsOf bs)
+      empty = run-end bs (l + 1) (min (e .home) r) (omega arith) ∙ sym (run-end bs (l + 1) (l + 1) (omega arith))
+
+      pub early-read : readSeen (more groupStart unseen) ≡ readOf e (entriesBetween (wordsOf bs) l r)
+      early-read =
+          rw
+          empty
+          (none-read
+          (l + 1)
+          (omega arith)
+          (omega arith)
+          (rw (run-end bs (l + 1) (l + 1) (omega arith)) (virgins-none (e .home) (l + 1)))
+          (virgins-above (e .home) (l + 1) (slice (l + 1) r (wordsOf bs)) (omega arith)))
+
+    module _ (late : r ≤ e .home) where
+      pub late-read : readSeen (more groupStart unseen) ≡ readOf e (entriesBetween (wordsOf bs) l r)
+      late-read =
+          let end : min (e .home) r ≡ r = omega arith in
+          rw
+          end
+          (none-read
+          r
+          (omega arith)
+          (omega arith)
+          (virgins-below (e .home) (l + 1) (slice (l + 1) r (wordsOf bs)) (omega (arith, run-size)))
+          (rw (home-end bs r r (omega arith)) (above-none)))
+
+    module _ (after-l : l < e .home) (before-r : e .home < r) where
+      own : min (e .home) r ≡ e .home
+      own = omega arith
+
+      low : Below (e .home) (virginPlaces (l + 1) (slice (l + 1) (e .home) (wordsOf bs)))
+      low =
+          virgins-below
+          (e .home)
+          (l + 1)
+          (slice (l + 1) (e .home) (wordsOf bs))
+          (omega (arith, length-slice (l + 1) (e .home) (wordsOf bs) (omega (arith, words-count bs))))
+
+      high : Above (e .home) (homesFrom (wordsOf bs) r (e .home + 1))
+      high = virgins-above (e .home) (e .home + 1) (slice (e .home + 1) r (wordsOf bs)) (omega arith)
+
+      pub new-read :
+          at (wordsOf bs) (e .home) .virgin ≡ false →
+          readSeen (more groupStart unseen) ≡ readOf e (entriesBetween (wordsOf bs) l r)
+      new-read none =
+          rw
+          own
+          (none-read
+          (e .home)
+          (omega arith)
+          (omega arith)
+          low
+          (rw (← home-passed bs (e .home) r before-r within none) high))
+
+      pub own-read :
+          at (wordsOf bs) (e .home) .virgin ≡ true →
+          groupRead e (more groupStart unseen) (slice (l + 1 + groupStart) r (wordsOf bs))
+          ≡ readOf e (entriesBetween (wordsOf bs) l r)
+      own-read virgin =
+          rw
+          own
+          (group-read
+          (e .home)
+          (omega arith)
+          (omega arith)
+          low
+          (homesFrom (wordsOf bs) r (e .home + 1))
+          (home-met bs (e .home) r before-r within virgin)
+          high)
+
+    -- as the code has it: so many homes, the place p after their groups, n words on the way
+    module _ (q k p n : ℕ) (t : Bool)
+        (stop : q ≡ min (e .home) r)
+        (homes : k ≡ count isVirgin (slice (l + 1) q (wordsOf bs)))
+        (place : p ≡ l + 1 + passed (slice (l + 1) r (wordsOf bs)) k)
+        (way : n ≡ p - (l + 1))
+        (home : t ≡ (ltb l (e .home) && (ltb (e .home) r && at (wordsOf bs) (e .home) .virgin)))
+      where
+        all-homes : k ≡ homesBefore
+        all-homes = homes ∙ ap (λ (j : ℕ). count isVirgin (slice (l + 1) j (wordsOf bs))) stop
+
+        start : p ≡ l + 1 + groupStart
+        start = place ∙ ap (λ (j : ℕ). l + 1 + passed (slice (l + 1) r (wordsOf bs)) j) all-homes
+
+        seen : record { held = false; smaller = n; grouped = false; largest = true } ≡ more groupStart unseen
+        seen =
+            let words : n ≡ 0 + groupStart = omega (arith, start) in
+            ap (λ (j : ℕ). record { held = false; smaller = j; grouped = false; largest = true }) words
+
+        pub read-here :
+            t ≡ true →
+            groupRead
+            e
+            (record { held = false; smaller = n; grouped = false; largest = true })
+            (slice p r (wordsOf bs))
+            ≡ readOf e (entriesBetween (wordsOf bs) l r)
+        read-here found =
+            let both = sym home ∙ found in
+            let inner = and-right (ltb l (e .home)) _ both in
+            ap₂ (λ (s : Seen) (j : ℕ). groupRead e s (slice j r (wordsOf bs))) seen start
+            ∙ own-read
+            (ltb-true l (e .home) (and-left (ltb l (e .home)) _ both))
+            (ltb-true (e .home) r (and-left (ltb (e .home) r) _ inner))
+            (and-right (ltb (e .home) r) _ inner)
+
+        pub read-new :
+            t ≡ false →
+            readSeen (record { held = false; smaller = n; grouped = false; largest = true })
+            ≡ readOf e (entriesBetween (wordsOf bs) l r)
+        read-new none = ap readSeen seen ∙ go (ltb l (e .home)) (ltb (e .home) r) refl refl
+          where
+            go :
+                (a b : Bool) → ltb l (e .home) ≡ a → ltb (e .home) r ≡ b →
+                readSeen (more groupStart unseen) ≡ readOf e (entriesBetween (wordsOf bs) l r)
+            go false b x y = early-read (ltb-false l (e .home) x)
+            go true false x y = late-read (ltb-false (e .home) r y)
+            go true true x y =
+                new-read (ltb-true l (e .home) x) (ltb-true (e .home) r y) (rw (x, y) at (sym home ∙ none))
