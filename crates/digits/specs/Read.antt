@@ -1,4 +1,5 @@
--- Digits read. `digitOr`: what a byte is worth as a digit, with a law for each range of the code; `all-on`, `all-stops`,
+-- Digits read. `digitOr`: what a byte is worth as a digit, with a law for each range of the code; `all-on`,
+-- `all-stops`,
 -- `all-ends`: a test of a text from the left; `Reading`: the invariant of a number read digit by digit, with its laws.
 -- Assumes nothing.
 use Prim.Native.Nat.{ℕ, zero, suc, _+_, _*_, _-_, _^_, _≤_, _<_}

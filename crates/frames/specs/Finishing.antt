@@ -1,4 +1,5 @@
--- The end of the input. `table-printed`: the table's line; `end-..`: what each stage prints; `last-..`: a last line that
+-- The end of the input. `table-printed`: the table's line; `end-..`: what each stage prints; `last-..`: a last line
+-- that
 -- lacks its line feed; `finish-..`: the room behind it, and both as one text; `call-..`: the call by its test.
 -- Assumes nothing.
 use Prim.Native.Nat.{ℕ, suc, _+_, _*_, _-_, _≤_, _<_}

@@ -113,7 +113,9 @@ module _ (f : First) (within-limits : inLimits f ≡ true) where
             cameTo called
             ≡ cond b (playedLine f table (keysOf text) floor) (after (among f) table error)
         go true e = ap cameTo (called-good e) ∙ came-good
-        go false e = ap cameTo (called-bad e) ∙ ap (λ (t : List ℕ). after (among f) t error) (take-append-drop (used f) table)
+        go false e =
+            ap cameTo (called-bad e)
+            ∙ ap (λ (t : List ℕ). after (among f) t error) (take-append-drop (used f) table)
 
     few-called : fewAnswers (called .came) ≡ true
     unfolding played
@@ -128,7 +130,9 @@ module _ (f : First) (within-limits : inLimits f ≡ true) where
         all-or false e = refl
 
         go : (b : Bool) → goodLine (shapeOf (f .m) (f .r)) text ≡ b → fewAnswers (called .came) ≡ true
-        go true e = ap (λ (x : Line). fewAnswers (x .came)) (called-good e) ∙ all-or (allAnswered (keysOf text) floor) (few e)
+        go true e =
+            ap (λ (x : Line). fewAnswers (x .came)) (called-good e)
+            ∙ all-or (allAnswered (keysOf text) floor) (few e)
         go false e = ap (λ (x : Line). fewAnswers (x .came)) (called-bad e)
 
     -- as the code has it: the part from 0 to 2 × (homes + 2)

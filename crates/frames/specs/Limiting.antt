@@ -1,4 +1,5 @@
--- The first line's tests: a number within its limits, `in-limits` and `not-m` to `not-tasks`; and the line by its tests.
+-- The first line's tests: a number within its limits, `all-in` and `not-m` to `not-tasks`.
+-- `first-other` to `first-length`: the line by its tests.
 -- Assumes nothing.
 use Prim.Native.Nat.{ℕ, _-_, _≤_, _<_}
 use mathlib.Core.Path.{_≡_, refl, sym, ap, _∙_}
@@ -66,7 +67,8 @@ module _ (text out : List ℕ) (d : Bool) (asked : d ≡ all isDigit text) (six 
 
       pub first-good :
           b ≡ true →
-          record { run = runOf (among (firstIs m r n)); wrote = 0; table = []; out = out } ≡ closing (firstLine [] text) out
+          record { run = runOf (among (firstIs m r n)); wrote = 0; table = []; out = out }
+          ≡ closing (firstLine [] text) out
       unfolding firstLine goodFirst
       first-good e = rw (eq-eqb (length text) 6 six, sym asked ∙ digits) (rw (said) (rw (sym limited ∙ e)))
 

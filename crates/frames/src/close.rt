@@ -55,7 +55,8 @@ pub fn close(run: Run, held: usize, line: &[u8], table: &mut [u8], out: &mut [u8
 // All words from place 0; EE where there was no first line; nothing where the run has ended.
 pub fn end(run: Run, table: &[u8], out: &mut [u8]) -> usize
     requires { ⌜ Fit (dayOf run (now table)) ⌝ ∗ ⌜ 65545 ≤ length (now out) ⌝ }
-    ensures { λ n. ⌜ shown n (now (out .exit)) ≡ printing (atEnd (dayOf run (now (table .entry)))) (now (out .entry)) ⌝ }
+    ensures { λ n. ⌜ shown n (now (out .exit))
+        ≡ printing (atEnd (dayOf run (now (table .entry)))) (now (out .entry)) ⌝ }
 {
     let stage = run.stage;
     match stage {

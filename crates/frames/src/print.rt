@@ -33,7 +33,8 @@ pub fn print_answers(answers: [u8; 512], n: usize, out: &mut [u8]) -> usize
 // The words of a table of n places.
 pub fn print_table(table: &[u8], n: usize, out: &mut [u8]) -> usize
     requires { ⌜ length (now table) ≡ 2 * n ⌝ ∗ ⌜ 4 * n + 1 ≤ length (now out) ⌝ ∗ ⌜ n ≤ 16386 ⌝ }
-    ensures { λ k. ⌜ shown k (now (out .exit)) ≡ printing (printed (wordDigits (now (table .entry)))) (now (out .entry)) ⌝ }
+    ensures { λ k. ⌜ shown k (now (out .exit))
+        ≡ printing (printed (wordDigits (now (table .entry)))) (now (out .entry)) ⌝ }
 {
     put_words(table, out);
     out[4 * n] = 10;

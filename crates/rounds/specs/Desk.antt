@@ -1,5 +1,6 @@
 -- The sixteen places for tasks, of which the first n sit, as a floor; and the laws of the loops over turns and rounds.
--- `Turning`: one round, turn by turn. `rest-on` to `answered-not`: whether all tasks are at rest, and all keys answered.
+-- `Turning`: one round, turn by turn. `rest-on` to `answered-not`: whether all tasks are at rest, and all keys
+-- answered.
 -- Assumes nothing.
 use Prim.Native.Nat.{ℕ, zero, suc, _+_, _-_, _/_, _≤_, _<_}
 use mathlib.Core.Path.{_≡_, refl, sym, ap, _∙_}
@@ -50,12 +51,15 @@ module _ (m r : ℕ) (ks : List ℕ) (n : ℕ) (few : n ≤ 16) where
   module _ (i : ℕ) (here : i < n) (table answers : List ℕ) (ts : List Task) (hs : List ℕ) (k : ℕ)
       (sized : length ts ≡ 16)
     where
-      one : (x : Sat) → x ≡ turnOne m r ks table answers (record { task = taskAt ts i; holds = getD hs i 0; taken = k }) →
+      one :
+          (x : Sat) →
+          x ≡ turnOne m r ks table answers (record { task = taskAt ts i; holds = getD hs i 0; taken = k }) →
           turn m r ks i (floorWith n table answers ts hs k)
           ≡ floorWith n (x .table) (x .answers) (set ts i (x .sitting .task)) (set hs i (x .sitting .holds))
           (x .sitting .taken)
       one x e =
-          turn-one m r ks i (floorWith n table answers ts hs k) inside (omega (arith, length-take-le n ts (omega arith)))
+          turn-one m r ks i (floorWith n table answers ts hs k) inside
+          (omega (arith, length-take-le n ts (omega arith)))
           ∙ rw (getD-take n ts i noTask here, getD-take n hs i 0 here, sym e)
           (rw (take-set-lt n ts i (x .sitting .task) here, take-set-lt n hs i (x .sitting .holds) here))
         where

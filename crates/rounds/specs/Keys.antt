@@ -1,4 +1,5 @@
--- A line's keys by number: `keys-length`, how many there are; `key-is`, the key with a number; `key-inside`, its digits.
+-- A line's keys by number: `keys-length`, how many there are; `key-is`, the key with a number; `key-inside`, its
+-- digits.
 -- Assumes nothing.
 use Prim.Native.Nat.{ℕ, zero, suc, _+_, _*_, _/_, _≤_, _<_}
 use mathlib.Core.Path.{_≡_, refl, sym, ap, _∙_}

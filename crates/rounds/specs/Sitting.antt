@@ -139,7 +139,8 @@ module _ (m r : ℕ) (ks : List ℕ) (i : ℕ) (f : Floor) (here : i < length (f
 pub after-says :
     (answers : List ℕ) (s : Sitting) (x : Turn) (after : List ℕ) →
     afterOne answers s (stepSays (s .task) x after)
-    ≡ sat after (answered answers (s .holds) (leftTask (turnSays (s .task) x))) (seated s (leftTask (turnSays (s .task) x)))
+    ≡ sat after (answered answers (s .holds) (leftTask (turnSays (s .task) x)))
+    (seated s (leftTask (turnSays (s .task) x)))
 after-says answers s (Next u) after = refl
 after-says answers s (Refused n) after = refl
 

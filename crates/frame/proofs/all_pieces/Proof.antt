@@ -8,7 +8,8 @@ use Rattle.frame.proofs.all_pieces.Tie as tie
 
 abbrev Inv-loop : tie.InvT-loop
 Inv-loop piece₀ line₀ table₀ out₀ run₀ turns₀ piece line table out run turns =
-    (length piece ≡ length piece₀) × (length line ≡ length line₀) × (length table ≡ length table₀) × (length out ≡ length out₀)
+    (length piece ≡ length piece₀) × (length line ≡ length line₀) × (length table ≡ length table₀) ×
+    (length out ≡ length out₀)
 
 abbrev μ-loop : tie.MeasureT-loop
 μ-loop piece₀ line₀ table₀ out₀ run₀ turns₀ piece line table out run turns = turns

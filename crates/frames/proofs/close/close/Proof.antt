@@ -36,7 +36,8 @@ same-length c = search needs
 returns : tie.Need-returns
 returns c =
     let start = c .before .before .before .before .before .before .before .before .before in
-    first-in (start .args .run) (now (start .args .table)) _ (now (start .args .out)) (c .before .before .before .before .enum-told .given .1) _ _ (c .before .before .first-line .ensures)
+    first-in (start .args .run) (now (start .args .table)) _ (now (start .args .out))
+    (c .before .before .before .before .enum-told .given .1) _ _ (c .before .before .first-line .ensures)
 
 same-length-2 : tie.Need-same-length-2
 same-length-2 c = search needs
@@ -47,12 +48,15 @@ same-length-3 c = search needs
 returns-2 : tie.Need-returns-2
 returns-2 c =
     let start = c .before .before .before .before .before .before .before .before .before .before .before .before in
-    frame-in (start .args .run) (now (start .args .table)) _ (now (start .args .out)) (c .before .before .before .before .before .before .before .enum-told2 .given .1) _ (c .before .before .before .before .frame-line .ensures)
+    frame-in (start .args .run) (now (start .args .table)) _ (now (start .args .out))
+    (c .before .before .before .before .before .before .before .enum-told2 .given .1) _
+    (c .before .before .before .before .frame-line .ensures)
 
 returns-3 : tie.Need-returns-3
 returns-3 c =
     let start = c .before .before .before .before .before .before in
-    ended-in (start .args .run) (now (start .args .table)) _ (now (start .args .out)) (c .before .enum-told3 .given .1) _ (c .run-ended .ensures)
+    ended-in (start .args .run) (now (start .args .table)) _ (now (start .args .out))
+    (c .before .enum-told3 .given .1) _ (c .run-ended .ensures)
 
 pub close-spec : {M : Type 1} → statement M
 close-spec =

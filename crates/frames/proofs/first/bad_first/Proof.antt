@@ -19,7 +19,8 @@ same-length c = search needs
 
 returns : tie.Need-returns
 returns c =
-    closed-as _ _ [] (now (c .before .before .before .before .before .before .args .out)) _ ended error (c .run-ended .ensures) (c .before .before .before .error .ensures)
+    closed-as _ _ [] (now (c .before .before .before .before .before .before .args .out)) _ ended error
+    (c .run-ended .ensures) (c .before .before .before .error .ensures)
 
 pub bad-first-spec : {M : Type 1} → statement M
 bad-first-spec = tie.close (tie.spec error-requires run-ended-requires same-length returns)

@@ -24,7 +24,10 @@ number-requires-3 : tie.Need-number-requires-3
 number-requires-3 c κs =
     let start = c .before .before .before .before .before .before in (
       omega arith,
-      (omega (arith, start .pre .0), sym (c .before .before .before .all-digits .ensures) ∙ c .before .before .if1 .taken),
+      (
+        omega (arith, start .pre .0),
+        sym (c .before .before .before .all-digits .ensures) ∙ c .before .before .if1 .taken,
+      ),
     )
 
 in-limits-requires : tie.Need-in-limits-requires
@@ -39,7 +42,8 @@ returns c =
     let digits = one .before .before in
     let start = digits .before .before .before in
     first-good _ _ _ (digits .all-digits .ensures) (start .pre .0) _ _ _ _ (one .before .if1 .taken)
-    (limits .in-limits .ensures) (one .number .ensures) (second .number2 .ensures) (third .number3 .ensures) (c .if2 .taken)
+    (limits .in-limits .ensures) (one .number .ensures) (second .number2 .ensures) (third .number3 .ensures)
+    (c .if2 .taken)
 
 bad-first-requires : tie.Need-bad-first-requires
 bad-first-requires c κs = search needs

@@ -58,7 +58,8 @@ returns-2 c =
     let start = c .before .before .before .before .before .before .before .before .before in
     let told = c .before .before .before .before .before .before .answer .given .1 in
     closed-as _ _ [] (now (start .args .out)) _ (among (firstIn (start .args .run)))
-    (printed (digitsOf (take (c .before .before .before .before .before .before .answer .given .0 .0) (start .args .slots))))
+    (printed
+    (digitsOf (take (c .before .before .before .before .before .before .answer .given .0 .0) (start .args .slots))))
     (c .run-among2 .ensures) (c .before .before .before .print-answers .ensures)
     ∙ came-as _ _ _ _ _ told
 

@@ -35,7 +35,8 @@ part-line-start c = search needs
 part-line-end : tie.Need-part-line-end
 part-line-end c =
     let start = c .before .before .before .before .before in
-    omega (arith, start .pre .1 .0, used-inside _ (start .pre .0) _ _ (c .before .shape-of .ensures) (c .homes .ensures))
+    let inside = used-inside _ (start .pre .0) _ _ (c .before .shape-of .ensures) (c .homes .ensures) in
+    omega (arith, start .pre .1 .0, inside)
 
 slice-aggregate-line : tie.Need-slice-aggregate-line
 slice-aggregate-line c = search needs
@@ -49,7 +50,8 @@ print-line-requires c κs =
     let count = asked .before .before .before in
     let start = count .before .before .before .before .before in (
       few-came (firstIn (start .args .run)) (start .pre .0) (now (start .args .table)) (now (start .args .text)) _
-          (start .pre .1 .0) refl _ _ (count .before .shape-of .ensures) (count .homes .ensures) _ _ _ (asked .line .ensures),
+          (start .pre .1 .0) refl _ _ (count .before .shape-of .ensures) (count .homes .ensures) _ _ _
+          (asked .line .ensures),
       start .pre .1 .1,
     )
 

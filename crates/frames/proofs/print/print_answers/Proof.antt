@@ -37,7 +37,8 @@ returns : tie.Need-returns
 returns c =
     let put = c .before .before in
     let start = put .before .before .before .before .before in
-    answers-shown _ _ _ _ (omega (arith, start .pre .0, start .good)) (start .pre .0) (start .pre .1) (put .put-bytes .ensures)
+    answers-shown _ _ _ _ (omega (arith, start .pre .0, start .good)) (start .pre .0) (start .pre .1)
+    (put .put-bytes .ensures)
 
 pub print-answers-spec : {M : Type 1} → statement M
 print-answers-spec =

@@ -30,7 +30,8 @@ line-keys-requires c κs =
       omega (arith, shape .before .if3 .taken),
       (
         range-good _ _ _ _ (table .good-table .ensures) (shape .before .before .before .if1 .taken),
-        ap (λ (sh : Shape). goodLine sh (now (table .before .before .before .before .args .text))) (sym (shape .shape-of .ensures))
+        ap (λ (sh : Shape). goodLine sh (now (table .before .before .before .before .args .text)))
+            (sym (shape .shape-of .ensures))
             ∙ sym (c .before .before .before .good-line .ensures)
             ∙ c .before .before .if4 .taken,
       ),

@@ -26,7 +26,10 @@ play-requires c κs =
         start .pre .1 .0,
         (
           text-digits _ _ good,
-          (part-keys _ (now (start .args .text)) good (now (start .args .slots)) room, part-few _ (now (start .args .text)) good (now (start .args .slots)) room),
+          (
+            part-keys _ (now (start .args .text)) good (now (start .args .slots)) room,
+            part-few _ (now (start .args .text)) good (now (start .args .slots)) room,
+          ),
         ),
       ),
     )

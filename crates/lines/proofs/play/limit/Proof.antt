@@ -25,7 +25,8 @@ add-result-2 c = search needs
 mul-result-2 : tie.Need-mul-result-2
 mul-result-2 c =
     let start = c .before in
-    record { fits = limit-fits _ _ (start .pre .1) (omega (arith, c .homes .ensures, homes-high (start .args .sh) (start .pre .0))) }
+    let high = homes-high (start .args .sh) (start .pre .0) in
+    record { fits = limit-fits _ _ (start .pre .1) (omega (arith, c .homes .ensures, high)) }
 
 returns : tie.Need-returns
 returns c = search (needs, limit-is)
