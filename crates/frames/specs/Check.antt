@@ -7,6 +7,10 @@ use native.Mathlib.Omega.{arith}
 use lib.ListN.{length}
 use lib.Dec.{leb, eqb}
 use borrow.Author.Tests.{le-leb, lt-leb, eq-eqb, ne-eqb}
+use Rattle.rules.specs.declared.Refusal.{Refusal}
+use Rattle.rules.specs.declared.Refusal.the-variants.{BadShape, BadKey, BadTask, Busy, AtRest, Unsound, Locked}
+use Rattle.rules.specs.declared.Refusal.the-variants.{Full, TooFewSlots}
+use Rattle.rules.specs.Answer.{numberOfRefusal}
 use Rattle.rules.specs.Record.{within}
 use Rattle.format.specs.declared.Run.{Run}
 use Rattle.format.specs.declared.Stage.{Stage}
@@ -110,3 +114,15 @@ module _ (run : Run) (line table out : ℕ) (shape : Bool)
             le-leb 4096 line d,
             le-leb 66570 out e,
           )
+
+-- a refusal's number is not 0
+pub some-number : (n : Refusal) → numberOfRefusal n ≡ 0 → ⊥
+some-number BadShape e = omega arith
+some-number BadKey e = omega arith
+some-number BadTask e = omega arith
+some-number Busy e = omega arith
+some-number AtRest e = omega arith
+some-number Unsound e = omega arith
+some-number Locked e = omega arith
+some-number Full e = omega arith
+some-number TooFewSlots e = omega arith

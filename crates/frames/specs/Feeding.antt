@@ -12,17 +12,6 @@ use borrow.Author.Tests.{lt-ltb, le-ltb, leb-true, leb-false, ne-eqb}
 use Rattle.rules.specs.declared.Done.{Done}
 use Rattle.rules.specs.declared.Done.the-variants.{Accepted, Refused}
 use Rattle.rules.specs.declared.Refusal.{Refusal}
-use Rattle.rules.specs.declared.Refusal.the-variants.{
-  BadShape,
-  BadKey,
-  BadTask,
-  Busy,
-  AtRest,
-  Unsound,
-  Locked,
-  Full,
-  TooFewSlots,
-}
 use Rattle.rules.specs.Answer.{doneSays, numberOfRefusal}
 use Rattle.format.specs.declared.Run.{Run}
 use Rattle.format.specs.Frame.{lineIn}
@@ -31,7 +20,7 @@ use Rattle.format.specs.Feed.{Feeding, feeds, refused, closes, holds, feedGood,
 use Rattle.reader.specs.Line.{line-inside, end-met, line-is}
 use Rattle.pieces.specs.Feeding.{Ready, accepted, not-refused}
 use Rattle.frames.specs.declared.close.Closed.{Closed}
-use Rattle.frames.specs.Check.{refusalBy, refusal-by}
+use Rattle.frames.specs.Check.{refusalBy, refusal-by, some-number}
 use Rattle.frames.specs.Hold.{Holding, holding}
 use Rattle.frames.specs.Closing.{Closing, closed, closing}
 
@@ -154,17 +143,6 @@ module _ (run : Run) (line table out : List ℕ) (d : Done)
         x ≡ feed run piece at b
     unfolding feed
     feed-accepted e piece at x good = rw (not-refused run b (feed-ready e)) good
-
-    some-number : (n : Refusal) → numberOfRefusal n ≡ 0 → ⊥
-    some-number BadShape e = omega arith
-    some-number BadKey e = omega arith
-    some-number BadTask e = omega arith
-    some-number Busy e = omega arith
-    some-number AtRest e = omega arith
-    some-number Unsound e = omega arith
-    some-number Locked e = omega arith
-    some-number Full e = omega arith
-    some-number TooFewSlots e = omega arith
 
     pub feed-refused :
         (n : Refusal) → d ≡ Refused n → (piece : List ℕ) (at : ℕ) →

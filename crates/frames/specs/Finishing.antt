@@ -1,5 +1,4 @@
--- The end of the input. `table-printed`: the table's line; `end-..`: what each stage prints; `last-..`: a last line
--- that
+-- The end of the input. `table-printed`: the table's line; `end-..`: what each stage prints; `last-..`: a last line that
 -- lacks its line feed; `finish-..`: the room behind it, and both as one text; `call-..`: the call by its test.
 -- Assumes nothing.
 use Prim.Native.Nat.{ℕ, suc, _+_, _*_, _-_, _≤_, _<_}
@@ -15,8 +14,6 @@ use borrow.Author.Tests.{eq-eqb, ne-eqb}
 use borrow.Rule.Slice.PartMut.{putMid}
 use Rattle.rules.specs.declared.Shape.{Shape}
 use Rattle.rules.specs.declared.Refusal.{Refusal}
-use Rattle.rules.specs.declared.Refusal.the-variants.{BadShape, BadKey, BadTask, Busy, AtRest, Unsound, Locked}
-use Rattle.rules.specs.declared.Refusal.the-variants.{Full, TooFewSlots}
 use Rattle.rules.specs.declared.Done.{Done}
 use Rattle.rules.specs.declared.Done.the-variants as done
 use Rattle.rules.specs.Answer.{numberOfRefusal, doneSays}
@@ -35,31 +32,19 @@ use Rattle.format.specs.Feed.{Finishing, finishes, refusedToo, lastLine, finish
 use Rattle.pieces.specs.Limits.{inStage, Fit, limits, used-fits, line-fits, line-prints, end-prints}
 use Rattle.pieces.specs.Feeding.{Ready, accepted}
 use Rattle.frames.specs.declared.close.Closed.{Closed}
-use Rattle.frames.specs.Check.{refusalBy, refusal-by}
+use Rattle.frames.specs.Check.{refusalBy, refusal-by, some-number}
 use Rattle.frames.specs.Closing.{Shown, shown, printing, Closing, closed, closing, lastClosing}
+use Rattle.frames.specs.Printing.{feed-ends}
+use Rattle.frames.specs.Framing.{limits-range, used-is, among-limits}
 
 -- ---- the table's line
--- a line feed stored behind a text at the front
-feed-stored :
-    (text out : List ℕ) (n : ℕ) → length text ≡ n → n < length out →
-    shown (n + 1) (set (text ++ drop n out) n 10) ≡ printing (printed text) out
-feed-stored text out n long room =
-    rw (
-      length-append text (10 ∷ []),
-      long,
-      drop-cons out n 0 room,
-      set-at text (getD out n 0) (drop (suc n) out) 10 n long,
-      add-one n,
-    )
-    (ap (shown (suc n)) (sym (append-snoc text 10 (drop (suc n) out))))
-
 pub table-printed :
     (n : ℕ) (table out out₁ : List ℕ) → length table ≡ 2 * n → 4 * n + 1 ≤ length out →
     out₁ ≡ wordDigits table ++ drop (length (wordDigits table)) out →
     shown (4 * n + 1) (set out₁ (4 * n) 10) ≡ printing (printed (wordDigits table)) out
 table-printed n table out out₁ size room e =
     let long : length (wordDigits table) ≡ 4 * n = omega (arith, words-length table) in
-    rw (e, long) (feed-stored (wordDigits table) out (4 * n) long (omega arith))
+    feed-ends (wordDigits table) out out₁ (4 * n) e (sym long) (omega arith)
 
 -- ---- the end, by the run's stage
 module _ (run : Run) (table : List ℕ) where
@@ -75,23 +60,18 @@ module _ (run : Run) (table : List ℕ) where
 
   module _ (fit : Fit (dayOf run table)) (frames : run .stage ≡ Among) where
     first-good : inLimits (firstIn run) ≡ true
-    unfolding dayOf
-    first-good = subst (λ (s : Stage). inStage (stageOf s (firstIn run))) frames (fit .stage)
+    first-good = among-limits run table fit frames
 
     module _ (sh : Shape) (shape : sh ≡ shapeOf (run .m) (run .r)) where
       pub end-range : InRange sh
-      end-range =
-          let l = limits (firstIn run) first-good in
-          subst InRange (sym shape)
-          (record { m-low = l .m-low; m-high = omega (arith, l .m-high); r-low = l .r-low; r-high = l .r-high })
+      end-range = subst InRange (sym shape) (limits-range (firstIn run) first-good)
 
       module _ (n : ℕ) (count : n ≡ homes sh) where
-        used-is : 2 * (n + 2) ≡ used (firstIn run)
-        unfolding used places
-        used-is = rw (count, shape)
+        end-used : 2 * (n + 2) ≡ used (firstIn run)
+        end-used = used-is (firstIn run) first-good sh n shape count
 
         pub end-few : n + 2 ≤ 16386
-        end-few = omega (arith, used-is, used-fits (firstIn run) first-good)
+        end-few = omega (arith, end-used, used-fits (firstIn run) first-good)
 
         pub end-inside : 2 * (n + 2) ≤ length table
         unfolding dayOf
@@ -106,7 +86,7 @@ module _ (run : Run) (table : List ℕ) where
             shown k out₁ ≡ printing (atEnd (dayOf run table)) out
         unfolding atEnd dayOf
         end-among k out out₁ e =
-            let same : 2 * (n + 2) - 0 ≡ used (firstIn run) = omega (arith, used-is) in
+            let same : 2 * (n + 2) - 0 ≡ used (firstIn run) = omega (arith, end-used) in
             rw frames (rw (sym same) e)
 
 -- ---- a last line that lacks its line feed
@@ -254,16 +234,6 @@ module _ (run : Run) (b : Lent) (ok : Ready run b) where
         )
 
 -- ---- the call by its test
-some-refusal : (n : Refusal) → numberOfRefusal n ≡ 0 → ⊥
-some-refusal BadShape e = omega arith
-some-refusal BadKey e = omega arith
-some-refusal BadTask e = omega arith
-some-refusal Busy e = omega arith
-some-refusal AtRest e = omega arith
-some-refusal Unsound e = omega arith
-some-refusal Locked e = omega arith
-some-refusal Full e = omega arith
-some-refusal TooFewSlots e = omega arith
 
 module _ (run : Run) (line table out : List ℕ) (d : Done)
     (tested : doneSays d .number ≡ refusalBy run (length line) (length table) (length out))
@@ -289,4 +259,4 @@ module _ (run : Run) (line table out : List ℕ) (d : Done)
     unfolding finish
     call-refused n e =
         let number : refusal run buffers ≡ numberOfRefusal n = test-is ∙ ap (λ (x : Done). doneSays x .number) e in
-        rw (number, ne-eqb (numberOfRefusal n) 0 (some-refusal n))
+        rw (number, ne-eqb (numberOfRefusal n) 0 (some-number n))

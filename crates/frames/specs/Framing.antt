@@ -42,7 +42,7 @@ module _ (f : First) (within-limits : inLimits f ≡ true) where
       record { m-low = lim .m-low; m-high = omega (arith, lim .m-high); r-low = lim .r-low; r-high = lim .r-high }
 
   -- the bytes of the used part, from the homes
-  used-is : (sh : Shape) (h : ℕ) → sh ≡ shapeOf (f .m) (f .r) → h ≡ homes sh → 2 * (h + 2) ≡ used f
+  pub used-is : (sh : Shape) (h : ℕ) → sh ≡ shapeOf (f .m) (f .r) → h ≡ homes sh → 2 * (h + 2) ≡ used f
   unfolding used places
   used-is sh h shape e = rw (e, shape)
 

@@ -7,7 +7,8 @@ use native.Mathlib.Numerals.{add-one}
 use native.Mathlib.Omega.{arith}
 use lib.ListN.{length, getD, set, take, drop, length-append}
 use lib.Seq.{drop-cons, set-at, length-take-le}
-use Rattle.format.specs.Digits.{glyph, digitsOf}
+use Rattle.format.specs.Digits.{digitsOf}
+use Rattle.digits.specs.Print.{digits-length}
 use Rattle.format.specs.declared.Run.{Run}
 use Rattle.format.specs.Frame.{Stage, after, printed, error}
 use Rattle.format.specs.Feed.{runOf, atFront}
@@ -39,12 +40,6 @@ error-shown [] h = absurd (omega arith)
 error-shown (a ∷ []) h = absurd (omega arith)
 error-shown (a ∷ b ∷ []) h = absurd (omega arith)
 error-shown (a ∷ b ∷ c ∷ out) h = refl
-
--- two digits a byte
-pub digits-length : (bytes : List ℕ) → length (digitsOf bytes) ≡ 2 * length bytes
-unfolding digitsOf
-digits-length [] = refl
-digits-length (b ∷ bytes) = omega (arith, digits-length bytes)
 
 -- the first n of some answers
 pub answers-shown :

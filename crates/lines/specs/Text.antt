@@ -18,7 +18,7 @@ use Rattle.format.specs.Rounds.{Floor, allAnswered, play}
 use Rattle.format.specs.Call.{Line, answered, ended, refused, passedOver, leftAlone, played, line}
 use Rattle.rules.specs.Record.{within}
 use Rattle.words.specs.Range.{InRange, good-table}
-use Rattle.rounds.specs.Keys.{keys-length}
+use Rattle.pieces.specs.Limits.{keys-count}
 use Rattle.lines.specs.Play.{Ran, ran, ranOf, lineKeys}
 
 module _ (sh : Shape) (text : List ℕ) (d : Bool) (asked : d ≡ all isDigit text) where
@@ -65,20 +65,20 @@ module _ (sh : Shape) (text : List ℕ) (good : goodLine sh text ≡ true) where
       (slots : List ℕ) → length text / 8 ≤ length slots →
       length (take (length text / 8 - 0) slots) ≡ length (keysOf text)
   part-keys slots room =
-      length-take-le (length text / 8 - 0) slots (omega arith) ∙ omega (arith, keys-length text)
+      length-take-le (length text / 8 - 0) slots (omega arith) ∙ omega (arith, keys-count text)
 
   pub part-few :
       (slots : List ℕ) → length text / 8 ≤ length slots → length (take (length text / 8 - 0) slots) ≤ 512
-  part-few slots room = omega (arith, part-keys slots room, keys-length text, parts .1)
+  part-few slots room = omega (arith, part-keys slots room, keys-count text, parts .1)
 
 -- ---- a good line's call, by how its rounds end
 module _ (m r n : ℕ) (table text slots : List ℕ) (room : length text / 8 ≤ length slots) where
   enough : leb (length (keysOf text)) (length slots) ≡ true
-  enough = le-leb (length (keysOf text)) (length slots) (omega (arith, keys-length text))
+  enough = le-leb (length (keysOf text)) (length slots) (omega (arith, keys-count text))
 
   left-over : drop (length text / 8 - 0) slots ≡ drop (length (keysOf text)) slots
   left-over =
-      let same : length text / 8 - 0 ≡ length (keysOf text) = omega (arith, keys-length text) in
+      let same : length text / 8 - 0 ≡ length (keysOf text) = omega (arith, keys-count text) in
       ap (λ (k : ℕ). drop k slots) same
 
   abbrev ran-line : (ks : List ℕ) (x : Ran) → Line
@@ -101,7 +101,7 @@ module _ (m r n : ℕ) (table text slots : List ℕ) (room : length text / 8 ≤
           leftAlone (answered (length text / 8)) after (answers ++ drop (length text / 8 - 0) slots)
           ≡ lineKeys m r n table (keysOf text) slots
       keys-answered done =
-          rw (left-over, sym (keys-length text))
+          rw (left-over, sym (keys-count text))
           (ap (λ (x : Bool). ran-line (keysOf text) (ran x after answers)) (sym done) ∙ whole)
 
       pub keys-ended :
@@ -116,7 +116,7 @@ pub keys-refused :
     leftAlone (refused 9) table slots ≡ lineKeys m r n table (keysOf text) slots
 unfolding lineKeys
 keys-refused m r n table text slots few =
-    rw (lt-leb (length (keysOf text)) (length slots) (omega (arith, keys-length text)))
+    rw (lt-leb (length (keysOf text)) (length slots) (omega (arith, keys-count text)))
 
 -- ---- the call by its tests
 pub range-good :

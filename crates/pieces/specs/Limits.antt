@@ -15,6 +15,7 @@ use Rattle.rules.specs.Lists.{all}
 use Rattle.rules.specs.Shape.{shapeOf, homes, keys, places}
 use Rattle.rules.specs.Record.{within}
 use Rattle.format.specs.Digits.{isDigit, digitsOf, wordDigits}
+use Rattle.digits.specs.Print.{digits-length, words-length}
 use Rattle.format.specs.Lines.{First, firstOf, inLimits, goodFirst, firstKeys, keysOf, goodLine}
 use Rattle.format.specs.Rounds.{Floor, allAnswered, play}
 use Rattle.format.specs.Frame.{Stage, atFirst, among, ended, Day, dawn, used, usedPart, withUsed, after, printed}
@@ -65,17 +66,6 @@ used-fits f e =
     omega arith
 
 -- ---- how much is printed
-digits-length : (ns : List ℕ) → length (digitsOf ns) ≡ 2 * length ns
-unfolding digitsOf
-digits-length [] = refl
-digits-length (n ∷ ns) = let e = digits-length ns in omega arith
-
-words-length : (bytes : List ℕ) → length (wordDigits bytes) ≤ 2 * length bytes
-unfolding wordDigits
-words-length [] = omega arith
-words-length (low ∷ []) = omega arith
-words-length (low ∷ high ∷ bytes) = let h = words-length bytes in omega arith
-
 first-keys-count : (n : ℕ) (line : List ℕ) → length (firstKeys n line) ≡ n
 unfolding firstKeys
 first-keys-count zero line = refl

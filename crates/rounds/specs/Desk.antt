@@ -21,7 +21,7 @@ use Rattle.format.specs.Rounds.{Floor, turn, turns, round, allAnswered, rounds}
 use Rattle.rounds.specs.declared.round.Desk.{Desk}
 use Rattle.rounds.specs.declared.turn.Sitting.{Sitting}
 use Rattle.rounds.specs.All.{all-on, all-stops, all-ends}
-use Rattle.rounds.specs.Keys.{keys-length}
+use Rattle.pieces.specs.Limits.{keys-count}
 use Rattle.rounds.specs.Sitting.{Sat, sat, turnOne, sittingAt, putBack, turn-one}
 
 -- the floor of the first n of some tasks
@@ -155,11 +155,11 @@ module _ (line : List ℕ) (n : ℕ) (d : Desk) where
   pub answered-rest :
       (b : Bool) → d .taken ≡ length line / 8 → b ≡ all atRest (take n (d .tasks)) → b ≡ answeredAt n (keysOf line) d
   unfolding answeredAt
-  answered-rest b e rest = rw (eq-eqb (d .taken) (length (keysOf line)) (e ∙ sym (keys-length line)), rest)
+  answered-rest b e rest = rw (eq-eqb (d .taken) (length (keysOf line)) (e ∙ sym (keys-count line)), rest)
 
   pub answered-not : (d .taken ≡ length line / 8 → ⊥) → false ≡ answeredAt n (keysOf line) d
   unfolding answeredAt
-  answered-not e = rw (ne-eqb (d .taken) (length (keysOf line)) (λ same. e (same ∙ keys-length line)))
+  answered-not e = rw (ne-eqb (d .taken) (length (keysOf line)) (λ same. e (same ∙ keys-count line)))
 
 -- ---- the loop of rounds: n of them are left
 pub record Playing (m r : ℕ) (ks : List ℕ) (tasks limit : ℕ) (f₀ : Floor) (table answers : List ℕ) (d : Desk) (n : ℕ)

@@ -1,5 +1,4 @@
--- A line's keys by number: `keys-length`, how many there are; `key-is`, the key with a number; `key-inside`, its
--- digits.
+-- A line's keys by number: `key-is`, the key with a number; `key-inside`, its digits.
 -- Assumes nothing.
 use Prim.Native.Nat.{ℕ, zero, suc, _+_, _*_, _/_, _≤_, _<_}
 use mathlib.Core.Path.{_≡_, refl, sym, ap, _∙_}
@@ -9,15 +8,7 @@ use lib.ListN.{length, getD, take, drop}
 use lib.Seq.{drop-drop}
 use Rattle.format.specs.Digits.{number}
 use Rattle.format.specs.Lines.{firstKeys, keysOf}
-
-first-length : (n : ℕ) (line : List ℕ) → length (firstKeys n line) ≡ n
-unfolding firstKeys
-first-length zero line = refl
-first-length (suc n) line = ap suc (first-length n (drop 8 line))
-
-pub keys-length : (line : List ℕ) → length (keysOf line) ≡ length line / 8
-unfolding keysOf
-keys-length line = first-length (length line / 8) line
+use Rattle.pieces.specs.Limits.{keys-count}
 
 first-is : (n i : ℕ) (line : List ℕ) → i < n → getD (firstKeys n line) i 0 ≡ number (take 8 (drop (8 * i) line))
 unfolding firstKeys
@@ -31,8 +22,8 @@ first-is (suc n) (suc i) line h =
 
 module _ (line : List ℕ) (i : ℕ) (here : i < length (keysOf line)) where
   pub key-inside : 8 * i + 8 ≤ length line
-  key-inside = omega (arith, keys-length line)
+  key-inside = omega (arith, keys-count line)
 
   pub key-is : getD (keysOf line) i 0 ≡ number (take 8 (drop (8 * i) line))
   unfolding keysOf
-  key-is = first-is (length line / 8) i line (omega (arith, keys-length line))
+  key-is = first-is (length line / 8) i line (omega (arith, keys-count line))

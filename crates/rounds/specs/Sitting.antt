@@ -23,7 +23,7 @@ use Rattle.tasks.specs.Stepping.{Left, stepSays, stepOne, lentOf, step-one}
 use Rattle.format.specs.Lines.{keysOf}
 use Rattle.format.specs.Rounds.{Floor, afterTake, afterStep, turn}
 use Rattle.rounds.specs.declared.turn.Sitting.{Sitting}
-use Rattle.rounds.specs.Keys.{keys-length}
+use Rattle.pieces.specs.Limits.{keys-count}
 
 -- the record that a call leaves
 abbrev pub leftTask : Leaves Task → Task
@@ -165,7 +165,7 @@ module _ (answers : List ℕ) (i : ℕ) (t : Task) where
 
 module _ (m r : ℕ) (line : List ℕ) (s : Sitting) where
   pub next-there : s .taken < length line / 8 → s .taken < length (keysOf line)
-  next-there h = omega (arith, keys-length line)
+  next-there h = omega (arith, keys-count line)
 
   pub take-more :
       (key : ℕ) (x : Turn) (t : Task) →
@@ -180,7 +180,7 @@ module _ (m r : ℕ) (line : List ℕ) (s : Sitting) where
 
   pub take-none : length line / 8 ≤ s .taken → s ≡ takeNext m r (keysOf line) s
   unfolding takeNext
-  take-none done = rw (le-ltb (s .taken) (length (keysOf line)) (omega (arith, keys-length line)))
+  take-none done = rw (le-ltb (s .taken) (length (keysOf line)) (omega (arith, keys-count line)))
 
 module _ (m r : ℕ) (table answers : List ℕ) (s : Sitting) where
   pub step-sat :

@@ -11,7 +11,7 @@ use Rattle.rules.specs.Lists.{all}
 use Rattle.rules.specs.Shape.{keys}
 use Rattle.format.specs.Lines.{keysOf}
 use Rattle.rounds.specs.All.{all-on, all-stops, all-ends}
-use Rattle.rounds.specs.Keys.{keys-length}
+use Rattle.pieces.specs.Limits.{keys-count}
 use Rattle.lines.proofs.line.good_keys.Statement.{statement}
 use Rattle.lines.proofs.line.good_keys.Tie as tie
 
@@ -28,7 +28,7 @@ loop-holds c = refl
 key-at-requires : tie.Need-key-at-requires Inv-loop μ-loop
 key-at-requires c κs =
     let start = c .before .before .before in
-    (start .pre .1, omega (arith, c .loop-test .taken, keys-length (now (start .args .text))))
+    (start .pre .1, omega (arith, c .loop-test .taken, keys-count (now (start .args .text))))
 
 good-key-requires : tie.Need-good-key-requires Inv-loop μ-loop
 good-key-requires c κs = search needs
@@ -39,7 +39,7 @@ add-i c = search needs
 loop-less : tie.Need-loop-less Inv-loop μ-loop
 loop-less c =
     let turn = c .before .before .before in
-    omega (arith, turn .loop-test .taken, keys-length (now (turn .before .before .before .args .text)))
+    omega (arith, turn .loop-test .taken, keys-count (now (turn .before .before .before .args .text)))
 
 loop-again : tie.Need-loop-again Inv-loop μ-loop
 loop-again c =
@@ -50,7 +50,7 @@ loop-again c =
     (keysOf (now (start .args .text)))
     (turn .before .loop .i)
     0
-    (omega (arith, turn .loop-test .taken, keys-length (now (start .args .text))))
+    (omega (arith, turn .loop-test .taken, keys-count (now (start .args .text))))
     (ap (λ (key : ℕ). ltb key (keys (start .args .sh))) (sym (c .before .before .key-at .ensures))
     ∙ sym (c .before .good-key .ensures) ∙ c .if1 .taken)
     ∙ turn .before .loop .inv
@@ -66,7 +66,7 @@ returns c =
     (keysOf (now (start .args .text)))
     (turn .before .loop .i)
     0
-    (omega (arith, turn .loop-test .taken, keys-length (now (start .args .text))))
+    (omega (arith, turn .loop-test .taken, keys-count (now (start .args .text))))
     (ap (λ (key : ℕ). ltb key (keys (start .args .sh))) (sym (c .before .before .key-at .ensures))
     ∙ sym (c .before .good-key .ensures) ∙ c .if1 .left))
 
@@ -80,7 +80,7 @@ returns-2 c =
     (keysOf (now (start .args .text)))
     (head .loop .i)
     0
-    (omega (arith, c .loop-test .left, keys-length (now (start .args .text)))))
+    (omega (arith, c .loop-test .left, keys-count (now (start .args .text)))))
     ∙ head .loop .inv
 
 pub good-keys-spec : {M : Type 1} → statement M
