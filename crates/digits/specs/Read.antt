@@ -1,6 +1,5 @@
--- Digits read. `digitOr`: what a byte is worth as a digit, with a law for each range of the code; `all-on`,
--- `all-stops`,
--- `all-ends`: a test of a text from the left; `Reading`: the invariant of a number read digit by digit, with its laws.
+-- Digits read. `digitOr`: what a byte is worth as a digit, with a law for each range of the code; `Reading`:
+-- the invariant of a number read digit by digit, with its laws.
 -- Assumes nothing.
 use Prim.Native.Nat.{ℕ, zero, suc, _+_, _*_, _-_, _^_, _≤_, _<_}
 use mathlib.Core.Path.{_≡_, refl, _∙_}
@@ -116,22 +115,6 @@ module _ (c : ℕ) where
   digit-is-worth e = rw e
 
 -- ---- a text of digits
-
-module _ (f : ℕ → Bool) (s : List ℕ) where
-  -- a test at one place more, from the left: what is left decides
-  pub all-on : (i : ℕ) → i < length s → f (getD s i 0) ≡ true → all f (drop i s) ≡ all f (drop (i + 1) s)
-  unfolding all
-  all-on i inside e = rw (add-one i, drop-cons s i 0 inside, e)
-
-  pub all-stops : (i : ℕ) → i < length s → f (getD s i 0) ≡ false → false ≡ all f (drop i s)
-  unfolding all
-  all-stops i inside e = rw (drop-cons s i 0 inside, e)
-
-  pub all-ends : (i : ℕ) → i ≤ length s → length s ≤ i → true ≡ all f (drop i s)
-  unfolding all
-  all-ends i low high =
-      let whole : i ≡ length s = omega arith in
-      rw (whole, drop-length s)
 
 -- what holds of all holds at a place
 pub all-at : (f : ℕ → Bool) (s : List ℕ) (i : ℕ) → all f s ≡ true → i < length s → f (getD s i 0) ≡ true

@@ -20,7 +20,7 @@ use Rattle.format.specs.Lines.{keysOf}
 use Rattle.format.specs.Rounds.{Floor, turn, turns, round, allAnswered, rounds}
 use Rattle.rounds.specs.declared.round.Desk.{Desk}
 use Rattle.rounds.specs.declared.turn.Sitting.{Sitting}
-use Rattle.rounds.specs.All.{all-on, all-stops, all-ends}
+use Rattle.words.specs.All.{all-on, all-stops, all-ends}
 use Rattle.pieces.specs.Limits.{keys-count}
 use Rattle.rounds.specs.Sitting.{Sat, sat, turnOne, sittingAt, putBack, turn-one}
 

@@ -29,19 +29,6 @@ use Rattle.table.specs.Filling.{Filled, overflows, filled, filledIf, fil
 abbrev pub good : Shape → ℕ → Bool
 good sh key = ltb key (keys sh)
 
-module _ (sh : Shape) (ks : List ℕ) (i : ℕ) (low : i < length ks) where
-  pub key-passed : good sh (getD ks i 0) ≡ true → all (good sh) (drop (i + 1) ks) ≡ all (good sh) (drop i ks)
-  unfolding all
-  key-passed e = rw (add-one, drop-cons ks i 0 low, e)
-
-  pub key-refused : good sh (getD ks i 0) ≡ false → all (good sh) (drop i ks) ≡ false
-  unfolding all
-  key-refused e = rw (drop-cons ks i 0 low, e)
-
-pub keys-passed : (sh : Shape) (ks : List ℕ) (i : ℕ) → length ks ≤ i → all (good sh) (drop i ks) ≡ true
-unfolding all
-keys-passed sh ks i h = rw (drop-of-length-le ks {i = i} h)
-
 pub key-good : (sh : Shape) (ks : List ℕ) (i : ℕ) → i < length ks → all (good sh) ks ≡ true → getD ks i 0 < keys sh
 unfolding all
 key-good sh [] i low e = absurd (omega arith)

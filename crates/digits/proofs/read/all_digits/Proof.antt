@@ -8,7 +8,8 @@ use denote.Ref.{now}
 use lib.ListN.{length, drop}
 use Rattle.rules.specs.Lists.{all}
 use Rattle.format.specs.Digits.{isDigit}
-use Rattle.digits.specs.Read.{low-is-digit, else-is-none, all-on, all-stops, all-ends}
+use Rattle.words.specs.All.{all-on, all-stops, all-ends}
+use Rattle.digits.specs.Read.{low-is-digit, else-is-none}
 use Rattle.digits.proofs.read.all_digits.Statement.{statement}
 use Rattle.digits.proofs.read.all_digits.Tie as tie
 
@@ -38,20 +39,20 @@ loop-again c =
     let turn = c .before .before .before in
     let s = now (turn .before .before .before .args .s) in
     let here = low-is-digit _ (rw (c .before .digit .ensures) at (c .if1 .taken)) in
-    (omega arith, turn .before .loop .inv .1 ∙ all-on isDigit s _ (turn .loop-test .taken) here)
+    (omega arith, turn .before .loop .inv .1 ∙ sym (all-on isDigit s _ 0 (turn .loop-test .taken) here))
 
 returns : tie.Need-returns Inv-loop μ-loop
 returns c =
     let turn = c .before .before .before in
     let s = now (turn .before .before .before .args .s) in
     let here = else-is-none _ (rw (c .before .digit .ensures) at (c .if1 .left)) in
-    all-stops isDigit s _ (turn .loop-test .taken) here ∙ sym (turn .before .loop .inv .1)
+    sym (all-stops isDigit s _ 0 (turn .loop-test .taken) here) ∙ sym (turn .before .loop .inv .1)
 
 returns-2 : tie.Need-returns-2 Inv-loop μ-loop
 returns-2 c =
     let head = c .before in
     let s = now (head .before .before .args .s) in
-    all-ends isDigit s _ (head .loop .inv .0) (c .loop-test .left) ∙ sym (head .loop .inv .1)
+    sym (all-ends isDigit s _ 0 (c .loop-test .left)) ∙ sym (head .loop .inv .1)
 
 pub all-digits-spec : {M : Type 1} → statement M
 all-digits-spec =

@@ -10,7 +10,7 @@ use lib.Dec.{ltb}
 use Rattle.rules.specs.Lists.{all}
 use Rattle.rules.specs.Shape.{keys}
 use Rattle.format.specs.Lines.{keysOf}
-use Rattle.rounds.specs.All.{all-on, all-stops, all-ends}
+use Rattle.words.specs.All.{all-on, all-stops, all-ends}
 use Rattle.pieces.specs.Limits.{keys-count}
 use Rattle.lines.proofs.line.good_keys.Statement.{statement}
 use Rattle.lines.proofs.line.good_keys.Tie as tie

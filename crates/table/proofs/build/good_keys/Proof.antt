@@ -7,7 +7,8 @@ use native.Mathlib.Omega.{arith}
 use denote.Ref.{now}
 use lib.ListN.{length, drop}
 use Rattle.rules.specs.Lists.{all}
-use Rattle.table.specs.Building.{good, key-passed, key-refused, keys-passed}
+use Rattle.words.specs.All.{all-on, all-stops, all-ends}
+use Rattle.table.specs.Building.{good}
 use Rattle.table.proofs.build.good_keys.Statement.{statement}
 use Rattle.table.proofs.build.good_keys.Tie as tie
 
@@ -41,10 +42,11 @@ loop-again c =
     let turn = c .before .before .before in
     let head = turn .before in
     let start = head .before .before in
-    key-passed
-    (start .args .sh)
+    all-on
+    (good (start .args .sh))
     (now (start .args .keys))
     (head .loop .i)
+    0
     (turn .loop-test .taken)
     (sym (c .before .good-key .ensures) ∙ c .if1 .taken)
     ∙ head .loop .inv
@@ -55,10 +57,11 @@ returns c =
     let head = turn .before in
     let start = head .before .before in
     sym
-    (key-refused
-    (start .args .sh)
+    (all-stops
+    (good (start .args .sh))
     (now (start .args .keys))
     (head .loop .i)
+    0
     (turn .loop-test .taken)
     (sym (c .before .good-key .ensures) ∙ c .if1 .left))
     ∙ head .loop .inv
@@ -67,7 +70,7 @@ returns-2 : tie.Need-returns-2 Inv-loop μ-loop
 returns-2 c =
     let head = c .before in
     let start = head .before .before in
-    sym (keys-passed (start .args .sh) (now (start .args .keys)) (head .loop .i) (c .loop-test .left))
+    sym (all-ends (good (start .args .sh)) (now (start .args .keys)) (head .loop .i) 0 (c .loop-test .left))
     ∙ head .loop .inv
 
 pub good-keys-spec : {M : Type 1} → statement M
