@@ -19,10 +19,10 @@ use Rattle.format.specs.Feed.{Lent, lent, withHeld, dayOf, refusal, lineLength,
 use Rattle.format.specs.Feed.{Feeding, feeds, refused, closes, holds, feedGood, feed}
 use Rattle.reader.specs.Line.{line-inside, end-met, line-is}
 use Rattle.pieces.specs.Feeding.{Ready, accepted, not-refused}
-use Rattle.frames.specs.declared.close.Closed.{Closed}
+use Rattle.closing.specs.declared.close.Closed.{Closed}
 use Rattle.frames.specs.Check.{refusalBy, refusal-by, some-number}
 use Rattle.frames.specs.Hold.{Holding, holding}
-use Rattle.frames.specs.Closing.{Closing, closed, closing}
+use Rattle.closing.specs.Closing.{Closing, closed, closing}
 
 -- ---- the point in the piece, and where the line ends; beyond the piece's end both are its end
 module _ (piece : List ℕ) (at from end : ℕ) (inside : from ≡ min at (length piece))

@@ -1,7 +1,7 @@
 // Feeding (01, The frame program): a run begins, and takes the rest of one line from a piece of its input.
 use crate::check::check;
-use crate::close::close;
 use crate::hold::hold;
+use closing::close::close;
 use format::FeedAnswer;
 use format::Run;
 use format::Stage;

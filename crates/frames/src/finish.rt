@@ -1,15 +1,15 @@
 // The end of the input (01, The frame program): a last line that lacks its line feed, and then the table.
 use crate::check::check;
-use crate::close::Closed;
-use crate::close::close;
-use crate::close::end;
+use closing::close::Closed;
+use closing::close::close;
+use closing::close::end;
 use format::FinishAnswer;
 use format::Run;
 use rules::Done;
 ghost use mathlib.Core.Path.{_≡_};
 ghost use Rattle.format.specs.Feed.{lent, lastLine, finishSays, finishGood, finish as spec-finish};
 ghost use Rattle.pieces.specs.Feeding.{Ready};
-ghost use Rattle.frames.specs.Closing.{closed, lastClosing};
+ghost use Rattle.closing.specs.Closing.{closed, lastClosing};
 
 // A line that is begun is a line.
 fn last_line(run: Run, line: &[u8], table: &mut [u8], out: &mut [u8]) -> Closed

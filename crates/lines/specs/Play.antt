@@ -1,21 +1,19 @@
 -- A line's keys run through idle tasks, as the code has them. `play-is`: sixteen idle places of which n sit are the
 -- start that the format names. `line-played`, `line-refused` and on: the call for one line by its tests.
 -- Assumes nothing.
-use Prim.Native.Nat.{ℕ, zero, suc, _+_, _*_, _/_, _%_, _≤_, _<_}
-use mathlib.Core.Path.{_≡_, refl, sym, ap, ap₂, _∙_}
-use mathlib.Core.Bool.{Bool, true, false, cond, _&&_}
-use mathlib.Core.List.{List, [], _∷_, _++_, append-nil}
+use Prim.Native.Nat.{ℕ, zero, suc, _+_, _*_, _≤_, _<_}
+use mathlib.Core.Path.{_≡_, refl, ap, ap₂, _∙_}
+use mathlib.Core.Bool.{Bool, cond}
+use mathlib.Core.List.{List, _∷_, _++_, append-nil}
 use native.Mathlib.Nat.{mul-le-mul-right}
 use native.Mathlib.Omega.{arith}
-use lib.ListN.{length, getD, take, drop, replicate, drop-of-length-le}
-use lib.Dec.{ltb, leb, eqb}
+use lib.ListN.{length, take, drop, replicate, drop-of-length-le}
+use lib.Dec.{leb}
 use Rattle.rules.specs.declared.Shape.{Shape}
-use Rattle.rules.specs.declared.Task.{Task}
 use Rattle.rules.specs.Lists.{all}
 use Rattle.rules.specs.Shape.{shapeOf, homes, keys, places}
 use Rattle.words.specs.Range.{InRange}
 use Rattle.rules.specs.Give.{noTask}
-use Rattle.format.specs.Lines.{keysOf, goodLine}
 use Rattle.format.specs.Rounds.{Floor, start, allAnswered, rounds, limit, play}
 use Rattle.format.specs.Call.{Line, refused, leftAlone, played}
 use Rattle.rounds.specs.declared.round.Desk.{Desk}

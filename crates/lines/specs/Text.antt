@@ -14,9 +14,8 @@ use Rattle.rules.specs.Lists.{all}
 use Rattle.rules.specs.Shape.{shapeOf, keys, goodTable}
 use Rattle.format.specs.Digits.{isDigit}
 use Rattle.format.specs.Lines.{keysOf, goodLine}
-use Rattle.format.specs.Rounds.{Floor, allAnswered, play}
+use Rattle.format.specs.Rounds.{play}
 use Rattle.format.specs.Call.{Line, answered, ended, refused, passedOver, leftAlone, played, line}
-use Rattle.rules.specs.Record.{within}
 use Rattle.words.specs.Range.{InRange, good-table}
 use Rattle.pieces.specs.Limits.{keys-count}
 use Rattle.lines.specs.Play.{Ran, ran, ranOf, lineKeys}

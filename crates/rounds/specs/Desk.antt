@@ -22,7 +22,7 @@ use Rattle.rounds.specs.declared.round.Desk.{Desk}
 use Rattle.rounds.specs.declared.turn.Sitting.{Sitting}
 use Rattle.words.specs.All.{all-on, all-stops, all-ends}
 use Rattle.pieces.specs.Limits.{keys-count}
-use Rattle.rounds.specs.Sitting.{Sat, sat, turnOne, sittingAt, putBack, turn-one}
+use Rattle.rounds.specs.Sitting.{Sat, sat, turnOne, turn-one}
 
 -- the floor of the first n of some tasks
 abbrev pub floorWith : ℕ → List ℕ → List ℕ → List Task → List ℕ → ℕ → Floor

@@ -9,15 +9,15 @@ use native.Mathlib.Numerals.{add-one}
 use native.Mathlib.Omega.{arith}
 use lib.ListN.{length, getD, set}
 use lib.Seq.{set-getD, getD-set-same}
-use lib.Dec.{ltb, leb, eqb}
+use lib.Dec.{ltb, eqb}
 use borrow.Author.Tests.{lt-ltb, le-ltb, le-leb, ne-eqb}
 use Rattle.rules.specs.declared.Task.{Task}
 use Rattle.rules.specs.declared.Turn.{Turn}
 use Rattle.rules.specs.declared.Turn.the-variants.{Next, Refused}
 use Rattle.rules.specs.Record.{atRest}
-use Rattle.rules.specs.Answer.{Answer, Leaves, leaves}
+use Rattle.rules.specs.Answer.{Leaves, leaves}
 use Rattle.rules.specs.Give.{noTask, taskAt, goodTask, storedAt, give}
-use Rattle.rules.specs.Step.{Lent, step}
+use Rattle.rules.specs.Step.{step}
 use Rattle.tasks.specs.Given.{turnSays, giveOne, give-one}
 use Rattle.tasks.specs.Stepping.{Left, stepSays, stepOne, lentOf, step-one}
 use Rattle.format.specs.Lines.{keysOf}

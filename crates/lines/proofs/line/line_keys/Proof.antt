@@ -1,7 +1,6 @@
 -- `line_keys` meets its contract: there are slots enough or not, and all keys are answered or not.
 -- Assumes nothing.
 use borrow.Author.Needs.{needs}
-use mathlib.Core.Path.{_∙_}
 use denote.Ref.{now}
 use Rattle.lines.specs.Text.{text-digits, part-keys, part-few, keys-answered, keys-ended, keys-refused}
 use Rattle.lines.proofs.line.line_keys.Statement.{statement}

@@ -1,10 +1,9 @@
 -- `all_at_rest` meets its contract. The invariant: the tasks from i on are all at rest exactly when all are.
 -- Assumes nothing.
-use Prim.Native.Nat.{_+_, _-_, _≤_}
+use Prim.Native.Nat.{_-_, _≤_}
 use mathlib.Core.Path.{_≡_, refl, sym, _∙_}
-use borrow.Author.Needs.{needs}
 use native.Mathlib.Omega.{arith}
-use lib.ListN.{length, take, drop}
+use lib.ListN.{take, drop}
 use Rattle.rules.specs.Lists.{all}
 use Rattle.rules.specs.Record.{atRest}
 use Rattle.tasks.specs.Fit.{resting, not-resting}

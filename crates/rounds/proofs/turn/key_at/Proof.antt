@@ -1,6 +1,5 @@
 -- `key_at` meets its contract: the key's eight digits are inside the line.
 -- Assumes nothing.
-use borrow.Author.Needs.{needs}
 use mathlib.Core.Path.{_∙_, sym}
 use native.Mathlib.Omega.{arith}
 use denote.Ref.{now}

@@ -1,0 +1,6 @@
+// A line that is whole (01, The frame program): what it makes of the run, and prints; and the end of the input.
+// The crate frames brings the lines.
+pub mod close;
+mod first;
+mod frame;
+mod print;
