@@ -61,7 +61,7 @@ pub data Above (c : ℕ) : List ℕ → Type 0 where
   above-none : Above c []
   above-next : {h : ℕ} {hs : List ℕ} → c < h → Above c hs → Above c (h ∷ hs)
 
-virgins-below : (c a : ℕ) (us : List Word) → a + length us ≤ c → Below c (virginPlaces a us)
+pub virgins-below : (c a : ℕ) (us : List Word) → a + length us ≤ c → Below c (virginPlaces a us)
 unfolding virginPlaces
 virgins-below c a [] h = below-none
 virgins-below c a (w ∷ us) h = go (w .virgin) (virgins-below c (suc a) us (omega arith))
@@ -76,7 +76,7 @@ virgins-none : (c a : ℕ) → Below c (virginPlaces a [])
 unfolding virginPlaces
 virgins-none c a = below-none
 
-virgins-above : (c b : ℕ) (vs : List Word) → c < b → Above c (virginPlaces b vs)
+pub virgins-above : (c b : ℕ) (vs : List Word) → c < b → Above c (virginPlaces b vs)
 unfolding virginPlaces
 virgins-above c b [] h = above-none
 virgins-above c b (w ∷ vs) h = go (w .virgin) (virgins-above c (suc b) vs (omega arith))
@@ -87,7 +87,7 @@ virgins-above c b (w ∷ vs) h = go (w .virgin) (virgins-above c (suc b) vs (ome
     go true rest = above-next h rest
     go false rest = rest
 
-virgins-append :
+pub virgins-append :
     (a : ℕ) (us vs : List Word) → virginPlaces a (us ++ vs) ≡ virginPlaces a us ++ virginPlaces (a + length us) vs
 unfolding virginPlaces
 virgins-append a [] vs = ap (λ (n : ℕ). virginPlaces n vs) (sym (add-zero a))
@@ -279,10 +279,6 @@ module _ (bs : List ℕ) (i r : ℕ) where
       unfolding groupRead
       group-ends c = rw (run-step bs i r lt within, ← word, c, remainder-is)
 
-  pub group-stops : (e : Entry) (s : Seen) → r ≤ i → readSeen s ≡ groupRead e s (slice i r (wordsOf bs))
-  unfolding groupRead
-  group-stops e s h = rw (run-end bs i r h)
-
 pub passed-all : (i : ℕ) (ws : List Word) → i + passed ws 0 ≡ i
 passed-all i ws = rw (passed-none ws) (add-zero i)
 
@@ -298,13 +294,16 @@ split-run bs r within (suc n) a q e h k =
     (run-step bs a r (omega arith) within, run-step bs a q (omega arith) (omega arith))
     (ap (λ (ws : List Word). at (wordsOf bs) a ∷ ws) (split-run bs r within n (a + 1) q (omega arith) (omega arith) k))
 
-counts-append : (us vs : List Word) → count isVirgin us ≤ count isVirgin (us ++ vs)
-unfolding count
-counts-append [] vs = omega arith
-counts-append (u ∷ us) vs = omega (arith, counts-append us vs)
-
 -- ---- a pass over groups does not look beyond them, so it need not know where the run ends
-passed-front : (us vs : List Word) (k : ℕ) → k ≤ count isChange us → passed (us ++ vs) k ≡ passed us k
+-- where a table's places end, or at least those that have a number
+abbrev pub placesOf : List ℕ → ℕ
+placesOf bs = min (length bs / 2) 4294967295
+
+-- the words of a table from place a on
+abbrev pub wordsFrom : List ℕ → ℕ → List Word
+wordsFrom bs a = slice a (placesOf bs) (wordsOf bs)
+
+pub passed-front : (us vs : List Word) (k : ℕ) → k ≤ count isChange us → passed (us ++ vs) k ≡ passed us k
 unfolding passed count
 passed-front [] vs zero few = passed-none vs
 passed-front [] vs (suc k) few = absurd (omega arith)
@@ -319,265 +318,68 @@ passed-front (u ∷ us) vs (suc k) few =
     go true h rest = ap suc (rest k (omega arith))
     go false h rest = ap suc (rest (suc k) (omega arith))
 
--- where a table's places end, or at least those that have a number
-abbrev pub placesOf : List ℕ → ℕ
-placesOf bs = min (length bs / 2) 4294967295
-
-pub record Further (bs : List ℕ) (a r k : ℕ) : Type 0 where
-  pub same : passed (slice a (placesOf bs) (wordsOf bs)) k ≡ passed (slice a r (wordsOf bs)) k
-  pub few : k ≤ count isChange (slice a (placesOf bs) (wordsOf bs))
-
-changes-append : (us vs : List Word) → count isChange us ≤ count isChange (us ++ vs)
-unfolding count
-changes-append [] vs = omega arith
-changes-append (u ∷ us) vs = omega (arith, changes-append us vs)
-
-pub further :
-    (bs : List ℕ) (a r k : ℕ) → 2 * r ≤ length bs → r ≤ 4294967295 →
-    k ≤ count isChange (slice a r (wordsOf bs)) → Further bs a r k
-unfolding count
-further bs a r k within small few = go (ltb a r) refl
+-- more groups than end in us: us is passed over
+pub passed-beyond :
+    (us vs : List Word) (j k : ℕ) → 0 < j → k ≡ count isChange us + j → passed (us ++ vs) k ≡ length us + passed vs j
+unfolding passed count
+passed-beyond [] vs j k some e =
+    let same : k ≡ j = omega arith in
+    let none : passed vs j ≡ 0 + passed vs j = omega arith in
+    rw same none
+passed-beyond (u ∷ us) vs j zero some e = absurd (omega arith)
+passed-beyond (u ∷ us) vs j (suc k) some e =
+    go (u .change) e (λ (i : ℕ) (h : i ≡ count isChange us + j). passed-beyond us vs j i some h)
   where
-    go : (b : Bool) → ltb a r ≡ b → Further bs a r k
-    go false h =
-        let none : k ≡ 0 = omega (arith, rw (run-end bs a r (ltb-false a r h)) at few) in
-        rw none (record { same = passed-none _ ∙ sym (passed-none _); few = omega arith })
-    go true h =
-        let lt : a < r = ltb-true a r h in
-        let cut = split-run bs (placesOf bs) (omega arith) (r - a) a r refl (omega arith) (omega arith) in
-        record {
-          same =
-              ap (λ (ws : List Word). passed ws k) cut
-              ∙ passed-front (slice a r (wordsOf bs)) (slice r (placesOf bs) (wordsOf bs)) k few;
-          few =
-              omega (
-                arith,
-                ap (count isChange) cut,
-                changes-append (slice a r (wordsOf bs)) (slice r (placesOf bs) (wordsOf bs)),
-              );
-        }
+    go :
+        (b : Bool) → suc k ≡ bitOf b + count isChange us + j →
+        ((i : ℕ) → i ≡ count isChange us + j → passed (us ++ vs) i ≡ length us + passed vs j) →
+        pastOne b (suc k) (λ (i : ℕ). passed (us ++ vs) i) ≡ suc (length us) + passed vs j
+    go true h rest = omega (arith, rest k (omega arith))
+    go false h rest = omega (arith, rest (suc k) (omega arith))
 
-module _ (e : Entry) (bs : List ℕ) (l r : ℕ) (lt : l < r) (within : 2 * r ≤ length bs)
-    (housed : Housed (between (wordsOf bs) l r))
+-- the groups that are left
+pub passed-left :
+    (ws : List Word) (k : ℕ) → k ≤ count isChange ws → k + count isChange (drop (passed ws k) ws) ≡ count isChange ws
+unfolding passed count
+passed-left [] zero few = refl
+passed-left [] (suc k) few = absurd (omega arith)
+passed-left (w ∷ ws) zero few = omega arith
+passed-left (w ∷ ws) (suc k) few =
+    go (w .change) few
+    (λ (j : ℕ) (h : j ≤ count isChange ws). passed-left ws j h)
   where
-    owed : Owed (virginPlaces (l + 1) (slice (l + 1) r (wordsOf bs))) (slice (l + 1) r (wordsOf bs))
-    owed = rw add-one (housed-owed (suc l) (between (wordsOf bs) l r) housed)
+    go :
+        (b : Bool) → suc k ≤ bitOf b + count isChange ws →
+        ((j : ℕ) → j ≤ count isChange ws → j + count isChange (drop (passed ws j) ws) ≡ count isChange ws) →
+        suc k + count isChange (drop (pastOne b (suc k) (λ (j : ℕ). passed ws j)) (w ∷ ws))
+        ≡ bitOf b + count isChange ws
+    go true h rest = omega (arith, rest k (omega arith))
+    go false h rest = omega (arith, rest (suc k) (omega arith))
 
-    run-size : l + 1 + length (slice (l + 1) r (wordsOf bs)) ≡ r
-    run-size = omega (arith, length-slice (l + 1) r (wordsOf bs) (omega (arith, words-count bs)))
+-- a group that ends in us is read there
+pub group-front :
+    (e : Entry) (us vs : List Word) (s : Seen) → 1 ≤ count isChange us → groupRead e s (us ++ vs) ≡ groupRead e s us
+unfolding groupRead count
+group-front e [] vs s some = absurd (omega arith)
+group-front e (u ∷ us) vs s some =
+    go (u .change) some (λ (h : 1 ≤ count isChange us). group-front e us vs (look e (entry (e .home) (u .remainder)) s) h)
+  where
+    next : Seen
+    next = look e (entry (e .home) (u .remainder)) s
 
-    -- the groups with homes before q are passed over
-    module _ (q : ℕ) (after-l : l + 1 ≤ q) (to-r : q ≤ r)
-        (low : Below (e .home) (virginPlaces (l + 1) (slice (l + 1) q (wordsOf bs))))
-      where
-        abbrev words : ℕ
-        words = passed (slice (l + 1) r (wordsOf bs)) (count isVirgin (slice (l + 1) q (wordsOf bs)))
+    go :
+        (b : Bool) → 1 ≤ bitOf b + count isChange us →
+        (1 ≤ count isChange us → groupRead e next (us ++ vs) ≡ groupRead e next us) →
+        cond b (readSeen next) (groupRead e next (us ++ vs)) ≡ cond b (readSeen next) (groupRead e next us)
+    go true h rest = refl
+    go false h rest = rest (omega arith)
 
-        size : l + 1 + length (slice (l + 1) q (wordsOf bs)) ≡ q
-        size = omega (arith, length-slice (l + 1) q (wordsOf bs) (omega (arith, words-count bs)))
+-- a group that ends from place i on has a word there, and goes on after a word that does not end it
+module _ (bs : List ℕ) (i : ℕ) (ends : 1 ≤ count isChange (wordsFrom bs i)) where
+  pub ends-there : i < placesOf bs
+  ends-there = group-there bs i (placesOf bs) 1 (omega arith) ends
 
-        split-homes :
-            virginPlaces (l + 1) (slice (l + 1) r (wordsOf bs))
-            ≡ virginPlaces (l + 1) (slice (l + 1) q (wordsOf bs)) ++ homesFrom (wordsOf bs) r q
-        split-homes =
-            ap (virginPlaces (l + 1)) (split-run bs r within (q - (l + 1)) (l + 1) q refl after-l to-r)
-            ∙ virgins-append (l + 1) (slice (l + 1) q (wordsOf bs)) (slice q r (wordsOf bs))
-            ∙ ap
-            (λ (n : ℕ). virginPlaces (l + 1) (slice (l + 1) q (wordsOf bs)) ++ virginPlaces n (slice q r (wordsOf bs)))
-            size
-
-        past :
-            Passed
-            e
-            unseen
-            words
-            (virginPlaces (l + 1) (slice (l + 1) q (wordsOf bs)))
-            (homesFrom (wordsOf bs) r q)
-            (slice (l + 1) r (wordsOf bs))
-        past =
-            rw
-            (← virgin-count (l + 1) (slice (l + 1) q (wordsOf bs)))
-            (pass-groups
-            e
-            (homesFrom (wordsOf bs) r q)
-            (slice (l + 1) r (wordsOf bs))
-            unseen
-            (virginPlaces (l + 1) (slice (l + 1) q (wordsOf bs)))
-            low
-            (rw split-homes at owed))
-
-        rest :
-            after e (more words unseen) (deal (homesFrom (wordsOf bs) r q) (drop words (slice (l + 1) r (wordsOf bs))))
-            ≡ readOf e (entriesBetween (wordsOf bs) l r)
-        rest =
-            sym (past .same)
-            ∙ ap (λ (hs : List ℕ). after e unseen (deal hs (slice (l + 1) r (wordsOf bs)))) (sym split-homes)
-            ∙ read-whole e bs r l
-
-        none-read :
-            Above (e .home) (homesFrom (wordsOf bs) r q) →
-            readSeen (more words unseen) ≡ readOf e (entriesBetween (wordsOf bs) l r)
-        none-read high = sym (pass-later e (more words unseen) _ _ high (past .owed)) ∙ rest
-
-        group-read :
-            (hs : List ℕ) → homesFrom (wordsOf bs) r q ≡ e .home ∷ hs → Above (e .home) hs →
-            groupRead e (more words unseen) (slice (l + 1 + words) r (wordsOf bs))
-            ≡ readOf e (entriesBetween (wordsOf bs) l r)
-        group-read hs first high =
-            ap (groupRead e (more words unseen)) (sym (drop-drop words (l + 1) (take r (wordsOf bs))))
-            ∙ sym (read-group e hs _ (more words unseen) high (rw first at (past .owed)))
-            ∙ ap
-            (λ (gs : List ℕ). after e (more words unseen) (deal gs (drop words (slice (l + 1) r (wordsOf bs)))))
-            (sym first)
-            ∙ rest
-
-    -- the homes between l and the key's own
-    abbrev pub homesBefore : ℕ
-    homesBefore = count isVirgin (slice (l + 1) (min (e .home) r) (wordsOf bs))
-
-    -- what was seen when the groups of earlier homes are passed over, and where the key's own group begins or would
-    abbrev pub groupStart : ℕ
-    groupStart = passed (slice (l + 1) r (wordsOf bs)) homesBefore
-
-    -- there are as many groups
-    pub homes-few : homesBefore ≤ count isChange (slice (l + 1) r (wordsOf bs))
-    unfolding count
-    homes-few = go (ltb (l + 1) (min (e .home) r)) refl
-      where
-        all-homes : count isVirgin (slice (l + 1) r (wordsOf bs)) ≡ count isChange (slice (l + 1) r (wordsOf bs))
-        all-homes = rw add-one (housed .as-many)
-
-        go : (b : Bool) → ltb (l + 1) (min (e .home) r) ≡ b → homesBefore ≤ count isChange (slice (l + 1) r (wordsOf bs))
-        go false h = rw (run-end bs (l + 1) (min (e .home) r) (ltb-false _ _ h)) (omega arith)
-        go true h =
-            let q = min (e .home) r in
-            let inside : l + 1 < q = ltb-true _ _ h in
-            let cut = split-run bs r within (q - (l + 1)) (l + 1) q refl (omega arith) (omega arith) in
-            omega (
-              arith,
-              all-homes,
-              counts-append (slice (l + 1) q (wordsOf bs)) (slice q r (wordsOf bs)),
-              ap (count isVirgin) cut,
-            )
-
-    -- the key's home stands before the run, after it, or in it
-    module _ (early : e .home ≤ l) where
-      empty : slice (l + 1) (min (e .home) r) (wordsOf bs) ≡ slice (l + 1) (l + 1) (wordsOf bs)
-      empty = run-end bs (l + 1) (min (e .home) r) (omega arith) ∙ sym (run-end bs (l + 1) (l + 1) (omega arith))
-
-      pub early-read : readSeen (more groupStart unseen) ≡ readOf e (entriesBetween (wordsOf bs) l r)
-      early-read =
-          rw
-          empty
-          (none-read
-          (l + 1)
-          (omega arith)
-          (omega arith)
-          (rw (run-end bs (l + 1) (l + 1) (omega arith)) (virgins-none (e .home) (l + 1)))
-          (virgins-above (e .home) (l + 1) (slice (l + 1) r (wordsOf bs)) (omega arith)))
-
-    module _ (late : r ≤ e .home) where
-      pub late-read : readSeen (more groupStart unseen) ≡ readOf e (entriesBetween (wordsOf bs) l r)
-      late-read =
-          let end : min (e .home) r ≡ r = omega arith in
-          rw
-          end
-          (none-read
-          r
-          (omega arith)
-          (omega arith)
-          (virgins-below (e .home) (l + 1) (slice (l + 1) r (wordsOf bs)) (omega (arith, run-size)))
-          (rw (home-end bs r r (omega arith)) (above-none)))
-
-    module _ (after-l : l < e .home) (before-r : e .home < r) where
-      own : min (e .home) r ≡ e .home
-      own = omega arith
-
-      low : Below (e .home) (virginPlaces (l + 1) (slice (l + 1) (e .home) (wordsOf bs)))
-      low =
-          virgins-below
-          (e .home)
-          (l + 1)
-          (slice (l + 1) (e .home) (wordsOf bs))
-          (omega (arith, length-slice (l + 1) (e .home) (wordsOf bs) (omega (arith, words-count bs))))
-
-      high : Above (e .home) (homesFrom (wordsOf bs) r (e .home + 1))
-      high = virgins-above (e .home) (e .home + 1) (slice (e .home + 1) r (wordsOf bs)) (omega arith)
-
-      pub new-read :
-          at (wordsOf bs) (e .home) .virgin ≡ false →
-          readSeen (more groupStart unseen) ≡ readOf e (entriesBetween (wordsOf bs) l r)
-      new-read none =
-          rw
-          own
-          (none-read
-          (e .home)
-          (omega arith)
-          (omega arith)
-          low
-          (rw (← home-passed bs (e .home) r before-r within none) high))
-
-      pub own-read :
-          at (wordsOf bs) (e .home) .virgin ≡ true →
-          groupRead e (more groupStart unseen) (slice (l + 1 + groupStart) r (wordsOf bs))
-          ≡ readOf e (entriesBetween (wordsOf bs) l r)
-      own-read virgin =
-          rw
-          own
-          (group-read
-          (e .home)
-          (omega arith)
-          (omega arith)
-          low
-          (homesFrom (wordsOf bs) r (e .home + 1))
-          (home-met bs (e .home) r before-r within virgin)
-          high)
-
-    -- as the code has it: so many homes, the place p after their groups, n words on the way
-    module _ (q k p n : ℕ) (t : Bool)
-        (stop : q ≡ min (e .home) r)
-        (homes : k ≡ count isVirgin (slice (l + 1) q (wordsOf bs)))
-        (place : p ≡ l + 1 + passed (slice (l + 1) r (wordsOf bs)) k)
-        (way : n ≡ p - (l + 1))
-        (home : t ≡ (ltb l (e .home) && (ltb (e .home) r && at (wordsOf bs) (e .home) .virgin)))
-      where
-        all-homes : k ≡ homesBefore
-        all-homes = homes ∙ ap (λ (j : ℕ). count isVirgin (slice (l + 1) j (wordsOf bs))) stop
-
-        start : p ≡ l + 1 + groupStart
-        start = place ∙ ap (λ (j : ℕ). l + 1 + passed (slice (l + 1) r (wordsOf bs)) j) all-homes
-
-        seen : record { held = false; smaller = n; grouped = false; largest = true } ≡ more groupStart unseen
-        seen =
-            let words : n ≡ 0 + groupStart = omega (arith, start) in
-            ap (λ (j : ℕ). record { held = false; smaller = j; grouped = false; largest = true }) words
-
-        pub read-here :
-            t ≡ true →
-            groupRead
-            e
-            (record { held = false; smaller = n; grouped = false; largest = true })
-            (slice p r (wordsOf bs))
-            ≡ readOf e (entriesBetween (wordsOf bs) l r)
-        read-here found =
-            let both = sym home ∙ found in
-            let inner = and-right (ltb l (e .home)) _ both in
-            ap₂ (λ (s : Seen) (j : ℕ). groupRead e s (slice j r (wordsOf bs))) seen start
-            ∙ own-read
-            (ltb-true l (e .home) (and-left (ltb l (e .home)) _ both))
-            (ltb-true (e .home) r (and-left (ltb (e .home) r) _ inner))
-            (and-right (ltb (e .home) r) _ inner)
-
-        pub read-new :
-            t ≡ false →
-            readSeen (record { held = false; smaller = n; grouped = false; largest = true })
-            ≡ readOf e (entriesBetween (wordsOf bs) l r)
-        read-new none = ap readSeen seen ∙ go (ltb l (e .home)) (ltb (e .home) r) refl refl
-          where
-            go :
-                (a b : Bool) → ltb l (e .home) ≡ a → ltb (e .home) r ≡ b →
-                readSeen (more groupStart unseen) ≡ readOf e (entriesBetween (wordsOf bs) l r)
-            go false b x y = early-read (ltb-false l (e .home) x)
-            go true false x y = late-read (ltb-false (e .home) r y)
-            go true true x y =
-                new-read (ltb-true l (e .home) x) (ltb-true (e .home) r y) (rw (x, y) at (sym home ∙ none))
+  pub ends-later :
+      (w : ℕ) → wordOf w ≡ at (wordsOf bs) i → wordOf w .change ≡ false → 1 ≤ count isChange (wordsFrom bs (i + 1))
+  ends-later w word goes =
+      fewer-groups bs i (placesOf bs) ends-there (omega arith) w word 1 0 (sym (ap bitOf goes)) ends

@@ -4,4 +4,5 @@ pub mod Run
 pub mod Homes
 pub mod Read
 pub mod Group
+pub mod Beside
 pub mod Check

@@ -9,37 +9,21 @@ use lib.Seq.{slice}
 use Rattle.rules.specs.Lists.{bitOf, count}
 use Rattle.rules.specs.Bytes.{wordsOf}
 use Rattle.theory.specs.Dealt.{isChange}
-use Rattle.cluster.specs.Group.{passed, placesOf, Further, further, group-there, word-past, fewer-groups, passed-all}
+use Rattle.cluster.specs.Group.{passed, placesOf, wordsFrom, group-there, word-past, fewer-groups, passed-all}
 use Rattle.cluster.proofs.read.pass_groups.Statement.{statement}
 use Rattle.cluster.proofs.read.pass_groups.Tie as tie
 
 abbrev Inv-loop : tie.InvT-loop
 Inv-loop table k left₀ i₀ left i =
-    (left ≤ count isChange (slice i (placesOf table) (wordsOf table)))
-    × (i + passed (slice i (placesOf table) (wordsOf table)) left
-    ≡ i₀ + passed (slice i₀ (placesOf table) (wordsOf table)) left₀)
+    (left ≤ count isChange (wordsFrom table i))
+    × (i + passed (wordsFrom table i) left
+    ≡ i₀ + passed (wordsFrom table i₀) left₀)
 
 abbrev μ-loop : tie.MeasureT-loop
 μ-loop table k left₀ i₀ left i = placesOf table - i
 
--- the groups stand before the end of the table, too
-beyond :
-    (start : tie.Start Inv-loop μ-loop) →
-    Further (now (start .args .table)) (start .args .a .0) (start .args .r .0) (start .args .k)
-beyond start =
-    further
-    (now (start .args .table))
-    (start .args .a .0)
-    (start .args .r .0)
-    (start .args .k)
-    (start .pre .0)
-    (omega (arith, start .good))
-    (start .pre .1)
-
 loop-holds : tie.Need-loop-holds Inv-loop μ-loop
-loop-holds c =
-    let start = c .before in
-    (beyond start .few, refl)
+loop-holds c = (c .before .pre, refl)
 
 -- at each turn there is a word
 there :
@@ -115,11 +99,8 @@ returns c =
     let start = head .before .before in
     let bs = now (start .args .table) in
     let none : head .loop .left ≡ 0 = omega (arith, c .loop-test .left) in
-    sym (ap (λ (k : ℕ). head .loop .i + passed (slice (head .loop .i) (placesOf bs) (wordsOf bs)) k) none ∙ passed-all _ _)
+    sym (ap (λ (k : ℕ). head .loop .i + passed (wordsFrom bs (head .loop .i)) k) none ∙ passed-all _ _)
     ∙ head .loop .inv .1
-    ∙ ap
-    (λ (n : ℕ). start .args .a .0 + n)
-    (beyond start .same)
 
 pub pass-groups-spec : {M : Type 1} → statement M
 pass-groups-spec =

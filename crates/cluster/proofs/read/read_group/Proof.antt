@@ -1,124 +1,150 @@
--- `read_group` meets its contract. The invariant: what was seen and the rest of the group make the whole.
+-- `read_group` meets its contract. The invariant: what was seen and the rest of the group make the whole, and the
+-- group's end is to come.
 -- Assumes nothing.
-use Prim.Native.Nat.{_-_, _≤_}
+use Prim.Native.Nat.{ℕ, _+_, _-_, _≤_}
 use mathlib.Core.Path.{_≡_, refl, sym, _∙_, ap}
 use borrow.Author.Needs.{needs}
+use borrow.Author.Tests.{not-true, not-false}
 use native.Mathlib.Omega.{arith}
 use denote.Ref.{now}
-use lib.Seq.{slice}
+use Rattle.rules.specs.Lists.{bitOf, count}
+use Rattle.rules.specs.Word.{wordOf}
 use Rattle.rules.specs.Bytes.{wordsOf}
+use Rattle.rules.specs.Table.{at}
+use Rattle.theory.specs.Dealt.{isChange}
 use Rattle.cluster.specs.Read.{entry, look-counts}
-use Rattle.cluster.specs.Group.{groupRead, group-goes, group-ends, group-stops}
+use Rattle.cluster.specs.Group.{placesOf, wordsFrom, groupRead, ends-there, ends-later, group-goes, group-ends}
 use Rattle.cluster.specs.declared.read.Seen.{Seen}
 use Rattle.cluster.proofs.read.read_group.Statement.{statement}
 use Rattle.cluster.proofs.read.read_group.Tie as tie
 
 abbrev Inv-loop : tie.InvT-loop
-Inv-loop table home x end seen₀ i₀ seen i =
+Inv-loop table x seen₀ i₀ w₀ seen i w =
     (seen .smaller ≤ i)
-    × (groupRead (entry (home .0) x) seen (slice i end (wordsOf table))
-    ≡ groupRead (entry (home .0) x) seen₀ (slice i₀ end (wordsOf table)))
+    × (1 ≤ count isChange (wordsFrom table i))
+    × (wordOf w ≡ at (wordsOf table) i)
+    × ((home : ℕ) →
+    groupRead (entry home x) seen (wordsFrom table i) ≡ groupRead (entry home x) seen₀ (wordsFrom table i₀))
 
 abbrev μ-loop : tie.MeasureT-loop
-μ-loop table home x end seen₀ i₀ seen i = end - i
-
-loop-holds : tie.Need-loop-holds Inv-loop μ-loop
-loop-holds c = (c .before .pre .1, refl)
+μ-loop table x seen₀ i₀ w₀ seen i w = placesOf table - i
 
 word-at-requires : tie.Need-word-at-requires Inv-loop μ-loop
-word-at-requires c κs = omega arith
+word-at-requires c κs =
+    let start = c .before in
+    omega (arith, ends-there (now (start .args .table)) (start .args .p .0) (start .pre .0))
+
+loop-holds : tie.Need-loop-holds Inv-loop μ-loop
+loop-holds c =
+    let start = c .before .before in
+    (start .pre .1, start .pre .0, c .word-at .ensures, λ (home : ℕ). refl)
+
+change-requires : tie.Need-change-requires Inv-loop μ-loop
+change-requires c κs = search needs
 
 remainder-requires : tie.Need-remainder-requires Inv-loop μ-loop
 remainder-requires c κs = search needs
 
 look-requires : tie.Need-look-requires Inv-loop μ-loop
-look-requires c κs = omega arith
+look-requires c κs =
+    let head = c .before .before .before in
+    let bs = now (head .before .before .before .args .table) in
+    omega (arith, ends-there bs (head .loop .i) (head .loop .inv .1))
 
-change-requires : tie.Need-change-requires Inv-loop μ-loop
-change-requires c κs = search needs
+add-i : tie.Need-add-i Inv-loop μ-loop
+add-i c =
+    let head = c .before .before .before .before in
+    let bs = now (head .before .before .before .args .table) in
+    omega (arith, ends-there bs (head .loop .i) (head .loop .inv .1))
+
+word-at-requires-2 : tie.Need-word-at-requires-2 Inv-loop μ-loop
+word-at-requires-2 c κs =
+    let tested = c .before .before in
+    let head = tested .before .before in
+    let bs = now (head .before .before .before .args .table) in
+    let more =
+        ends-later bs (head .loop .i) (head .loop .inv .1) (head .loop .w) (head .loop .inv .2)
+        (sym (tested .before .change .ensures) ∙ not-true _ (tested .if1 .taken)) in
+    omega (arith, ends-there bs (head .loop .i + 1) more)
+
+loop-less : tie.Need-loop-less Inv-loop μ-loop
+loop-less c =
+    let head = c .before .before .before .before .before in
+    let bs = now (head .before .before .before .args .table) in
+    omega (arith, ends-there bs (head .loop .i) (head .loop .inv .1))
+
+loop-again : tie.Need-loop-again Inv-loop μ-loop
+loop-again c =
+    let looked = c .before in
+    let tested = looked .before .before in
+    let head = tested .before .before in
+    let start = head .before .before .before in
+    let bs = now (start .args .table) in
+    let goes = sym (tested .before .change .ensures) ∙ not-true _ (tested .if1 .taken) in (
+      omega (
+        arith,
+        look-counts
+            (entry 0 (start .args .x))
+            (entry 0 (looked .before .remainder .result))
+            (head .loop .seen),
+        ap (λ (s : Seen). s .smaller) (looked .look .ensures 0),
+      ),
+      ends-later bs (head .loop .i) (head .loop .inv .1) (head .loop .w) (head .loop .inv .2) goes,
+      c .word-at2 .ensures,
+      λ (home : ℕ).
+      rw (looked .look .ensures home)
+          (group-goes
+          bs
+          (head .loop .i)
+          (placesOf bs)
+          (ends-there bs (head .loop .i) (head .loop .inv .1))
+          (omega arith)
+          (head .loop .w)
+          (head .loop .inv .2)
+          (entry home (start .args .x))
+          (head .loop .seen)
+          (looked .before .remainder .result)
+          (looked .before .remainder .ensures)
+          goes)
+          ∙ head .loop .inv .3 home,
+    )
+
+remainder-requires-2 : tie.Need-remainder-requires-2 Inv-loop μ-loop
+remainder-requires-2 c κs = search needs
+
+look-requires-2 : tie.Need-look-requires-2 Inv-loop μ-loop
+look-requires-2 c κs =
+    let head = c .before .before .before in
+    let bs = now (head .before .before .before .args .table) in
+    omega (arith, ends-there bs (head .loop .i) (head .loop .inv .1))
 
 read-of-requires : tie.Need-read-of-requires Inv-loop μ-loop
 read-of-requires c κs = search needs
 
 returns : tie.Need-returns Inv-loop μ-loop
 returns c =
-    let tested = c .before .before in
-    let looked = tested .before in
-    let read = looked .before .before in
-    let turn = read .before in
-    let head = turn .before in
-    let start = head .before .before in
-    let e = entry (start .args .home .0) (start .args .x) in
+    let looked = c .before in
+    let tested = looked .before .before in
+    let head = tested .before .before in
+    let start = head .before .before .before in
+    let bs = now (start .args .table) in
+    let home = start .args .home .0 in
     c .read-of .ensures
-    ∙ rw (looked .look .ensures)
+    ∙ rw (looked .look2 .ensures home)
     (group-ends
-    (now (start .args .table))
+    bs
     (head .loop .i)
-    (start .args .r .0)
-    (turn .loop-test .taken)
-    (start .pre .0)
-    (read .word-at .result)
-    (read .word-at .ensures)
-    e
+    (placesOf bs)
+    (ends-there bs (head .loop .i) (head .loop .inv .1))
+    (omega arith)
+    (head .loop .w)
+    (head .loop .inv .2)
+    (entry home (start .args .x))
     (head .loop .seen)
-    (looked .before .remainder .result)
-    (looked .before .remainder .ensures)
-    (sym (tested .change .ensures) ∙ c .before .if1 .taken))
-    ∙ head .loop .inv .1
-
-add-i : tie.Need-add-i Inv-loop μ-loop
-add-i c = omega arith
-
-loop-less : tie.Need-loop-less Inv-loop μ-loop
-loop-less c = omega arith
-
-loop-again : tie.Need-loop-again Inv-loop μ-loop
-loop-again c =
-    let tested = c .before in
-    let looked = tested .before in
-    let read = looked .before .before in
-    let turn = read .before in
-    let head = turn .before in
-    let start = head .before .before in
-    let e = entry (start .args .home .0) (start .args .x) in (
-      omega (
-        arith,
-        look-counts e (entry (start .args .home .0) (looked .before .remainder .result)) (head .loop .seen),
-        ap (λ (s : Seen). s .smaller) (looked .look .ensures),
-      ),
-      rw (looked .look .ensures)
-          (group-goes
-          (now (start .args .table))
-          (head .loop .i)
-          (start .args .r .0)
-          (turn .loop-test .taken)
-          (start .pre .0)
-          (read .word-at .result)
-          (read .word-at .ensures)
-          e
-          (head .loop .seen)
-          (looked .before .remainder .result)
-          (looked .before .remainder .ensures)
-          (sym (tested .change .ensures) ∙ c .if1 .left))
-          ∙ head .loop .inv .1,
-    )
-
-read-of-requires-2 : tie.Need-read-of-requires-2 Inv-loop μ-loop
-read-of-requires-2 c κs = search needs
-
-returns-2 : tie.Need-returns-2 Inv-loop μ-loop
-returns-2 c =
-    let head = c .before .before in
-    let start = head .before .before in
-    c .read-of2 .ensures
-    ∙ group-stops
-    (now (start .args .table))
-    (head .loop .i)
-    (start .args .r .0)
-    (entry (start .args .home .0) (start .args .x))
-    (head .loop .seen)
-    (c .before .loop-test .left)
-    ∙ head .loop .inv .1
+    (looked .before .remainder2 .result)
+    (looked .before .remainder2 .ensures)
+    (sym (tested .before .change .ensures) ∙ not-false _ (tested .if1 .left)))
+    ∙ head .loop .inv .3 home
 
 pub read-group-spec : {M : Type 1} → statement M
 read-group-spec =
@@ -126,15 +152,16 @@ read-group-spec =
     (tie.spec
     Inv-loop
     μ-loop
-    loop-holds
     word-at-requires
+    loop-holds
+    change-requires
     remainder-requires
     look-requires
-    change-requires
-    read-of-requires
-    returns
     add-i
+    word-at-requires-2
     loop-less
     loop-again
-    read-of-requires-2
-    returns-2)
+    remainder-requires-2
+    look-requires-2
+    read-of-requires
+    returns)
