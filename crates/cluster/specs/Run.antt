@@ -1,15 +1,15 @@
--- A run taken place by place: `run-step`, `run-end`; the steps of the scans for a lock and for an empty place;
--- and soundness in one pass, `passes`, which `passes-sound` says is the rule's.
+-- A run taken place by place: `run-step`, `run-end`, `run-last`; the steps of the scans for a lock and for an empty
+-- place; and soundness in one pass, `passes`, which `passes-sound` says is the rule's.
 -- Assumes nothing.
 use Prim.Native.Nat.{ℕ, _+_, _*_, _≤_, _<_}
 use mathlib.Core.Path.{_≡_, refl, _∙_}
 use mathlib.Core.Bool.{Bool, true, false, _&&_, _||_, and-true, and-comm}
-use mathlib.Core.List.{List, [], _∷_}
+use mathlib.Core.List.{List, [], _∷_, _++_}
 use native.Mathlib.Numerals.{add-one}
 use native.Mathlib.Nat.{zero-add, add-zero, add-assoc}
 use native.Mathlib.Omega.{arith}
 use lib.ListN.{length, take, drop-of-length-le, length-take}
-use lib.Seq.{slice, slice-cons}
+use lib.Seq.{slice, slice-cons, length-take-le, take-suc, drop-append-le}
 use lib.Dec.{ltb, eqb}
 use Rattle.rules.specs.declared.Shape.{Shape}
 use Rattle.rules.specs.Lists.{bitOf, count, all, any}
@@ -28,6 +28,16 @@ module _ (bs : List ℕ) (i r : ℕ) where
 
   pub run-end : r ≤ i → slice i r (wordsOf bs) ≡ []
   run-end h = drop-of-length-le (take r (wordsOf bs)) {i = i} (omega (arith, length-take r (wordsOf bs)))
+
+  -- from the other side: the last word
+  pub run-last :
+      i ≤ r → 2 * r + 1 < length bs →
+      slice i (r + 1) (wordsOf bs) ≡ slice i r (wordsOf bs) ++ (at (wordsOf bs) r ∷ [])
+  run-last h within =
+      let inside : r < length (wordsOf bs) = omega (arith, words-count bs) in
+      let size : i ≤ length (take r (wordsOf bs)) = omega (arith, length-take-le r (wordsOf bs) (omega arith)) in
+      rw (add-one r, take-suc (wordsOf bs) r zeroWord inside)
+      (drop-append-le i (take r (wordsOf bs)) (at (wordsOf bs) r ∷ []) size)
 
 -- the places after l
 pub run-after : (bs : List ℕ) (l r : ℕ) → slice (l + 1) r (wordsOf bs) ≡ between (wordsOf bs) l r

@@ -1,26 +1,27 @@
 // A run of places seen as one: is any locked, are all occupied, is it a sound cluster (01, Shape and layout).
 use crate::bit::bit_of;
+use crate::gaps::End;
 use rules::Shape;
 use words::bytes::word_at;
 use words::place::Place;
 use words::shape::remainders;
 use words::word::change;
+use words::word::is_void;
 use words::word::lock;
 use words::word::occupied;
 use words::word::remainder;
 use words::word::virgin;
 use words::word::with_change;
 ghost use mathlib.Core.Path.{_≡_};
-ghost use mathlib.Core.Bool.{true};
 ghost use Prim.Native.Nat.{_+_, _*_, _≤_, _<_};
 ghost use lib.ListN.{length};
 ghost use lib.Seq.{slice};
-ghost use Rattle.rules.specs.Lists.{all};
-ghost use Rattle.rules.specs.Word.{wordOf, isVoid};
+ghost use Rattle.rules.specs.Lists.{count, all};
+ghost use Rattle.rules.specs.Word.{wordOf};
 ghost use Rattle.rules.specs.Bytes.{wordsOf};
-ghost use Rattle.rules.specs.Table.{at, between, soundRun, locked};
+ghost use Rattle.rules.specs.Table.{between, soundRun, locked};
 ghost use Rattle.words.specs.Range.{InRange};
-ghost use Rattle.theory.specs.Dealt.{isOccupied};
+ghost use Rattle.theory.specs.Dealt.{isChange, isVirgin, isOccupied};
 ghost use Rattle.cluster.specs.Run as spec;
 ghost use Rattle.cluster.specs.Check as check;
 ghost use Rattle.cluster.specs.Check.{checkOf};
@@ -116,31 +117,31 @@ fn rises(v: u16, w: u16) -> bool
     }
 }
 
-// Soundness and locks in one pass, for a run with a void word after it. There is no branch in the loop, so that it is
-// made for vector units: the words are laid over one another, and each is held against the next.
-pub fn check_run(sh: Shape, table: &[u8], l: Place, r: Place) -> Check
-    requires { ⌜ InRange sh ⌝ ∗ ⌜ l .0 < r .0 ⌝ ∗ ⌜ 2 * r .0 + 1 < length (now table) ⌝ }
-    requires { ⌜ isVoid (at (wordsOf (now table)) (r .0)) ≡ true ⌝ }
-    ensures { λ c. ⌜ c ≡ checkOf sh (between (wordsOf (now (table .entry))) (l .0) (r .0)) ⌝ }
+// Soundness and locks in one pass, of the run between two ends and of the ends themselves. There is no branch in the
+// loop, so that it is made for vector units: the words are laid over one another, and each is held against the next.
+pub fn check_run(sh: Shape, table: &[u8], l: Place, r: End) -> Check
+    requires { ⌜ InRange sh ⌝ ∗ ⌜ l .0 < r .gap .0 ⌝ ∗ ⌜ 2 * r .gap .0 + 1 < length (now table) ⌝ }
+    requires { ⌜ r .virgins ≡ count isVirgin (between (wordsOf (now table)) (l .0) (r .gap .0)) ⌝ }
+    requires { ⌜ r .changes ≡ count isChange (between (wordsOf (now table)) (l .0) (r .gap .0)) ⌝ }
+    ensures { λ c. ⌜ c ≡ checkOf sh (wordsOf (now (table .entry))) (l .0) (r .gap .0) ⌝ }
 {
-    let end = r.0;
+    let first = word_at(table, l);
+    let last = word_at(table, r.gap);
+    let end = r.gap.0;
     let mut up = true;
     let mut over: u16 = 0;
-    let mut virgins: u32 = 0;
-    let mut changes: u32 = 0;
     let mut i = l.0 + 1;
     while i < end {
         let w = word_at(table, Place(i));
         let next = word_at(table, Place(i + 1));
         up = up & rises(w, next);
         over = over | w;
-        virgins += bit_of(virgin(w));
-        changes += bit_of(change(w));
         i += 1;
     }
     let low = (remainder(over) as u32) < remainders(sh);
+    let even = r.virgins == r.changes;
     Check {
-        sound: up & low & (virgins == changes),
-        locked: lock(over),
+        sound: is_void(first) & is_void(last) & up & low & even,
+        locked: lock(over) | lock(first) | lock(last),
     }
 }
