@@ -1,28 +1,46 @@
--- A payload carried in the hand: each place that the hand passes takes its neighbour's payload, and the last takes the
--- one that is held. `Carrying` is the loop's invariant; `carry-begins`, `carry-moves`, `carry-ends` are its laws.
+-- A payload held in the hand: each place that the hand passes takes its neighbour's payload (`shifts`), and at the goal
+-- the held one is put down (`moves-shift`). `Shifting` is the invariant of both loops, with `shift-on`, `shift-ends`.
 -- Assumes nothing.
-use Prim.Native.Nat.{ℕ, zero, suc, _+_, _-_, _*_, _/_, _≤_, _<_}
+use Prim.Native.Nat.{ℕ, zero, suc, _+_, _-_, _*_, _<_}
 use mathlib.Core.Path.{_≡_, refl, sym, ap, ap₂, _∙_}
 use mathlib.Core.Logic.{_≢_}
 use mathlib.Core.List.{List, [], _∷_}
 use native.Mathlib.Omega.{arith}
-use lib.ListN.{length, set}
+use borrow.Author.Tests.{lt-ltb, le-ltb}
+use lib.ListN.{length, set, length-set}
 use lib.Seq.{set-getD, set-set, getD-set-same, getD-set-other}
 use Rattle.rules.specs.Word.{Word, wordOf, zeroWord, withPayload}
 use Rattle.rules.specs.Bytes.{wordsOf}
 use Rattle.rules.specs.Table.{at}
 use Rattle.rules.specs.Phase.{exchange}
-use Rattle.theory.specs.Motion.{toward, moves, distance, distance-toward, toward-lt, heads, Heads, rightward, leftward}
+use Rattle.theory.specs.Motion.{
+  toward,
+  moves,
+  distance,
+  distance-toward,
+  distance-none,
+  distance-some,
+  toward-lt,
+  heads,
+  Heads,
+  rightward,
+  leftward,
+}
 
--- the table where the payload of v is held for place p
+-- the table where place p has taken the payload of v
 abbrev pub holding : Word → List Word → ℕ → List Word
 holding v ws p = set ws p (withPayload v (at ws p))
+
+-- some moves of the hand towards its goal, but for the payload that it holds
+unfoldable pub shifts : ℕ → List Word → ℕ → ℕ → List Word
+shifts zero ws hand goal = ws
+shifts (suc n) ws hand goal = shifts n (holding (at ws (toward hand goal)) ws hand) (toward hand goal) goal
 
 -- the neighbour's payload goes to the hand's place, and then the held one is held for the neighbour's
 exchange-held :
     (v : Word) (ws : List Word) (p q : ℕ) →
     p < length ws → q ≢ p →
-    exchange (holding v ws p) p q ≡ holding v (set ws p (withPayload (at ws q) (at ws p))) q
+    exchange (holding v ws p) p q ≡ holding v (holding (at ws q) ws p) q
 unfolding exchange
 exchange-held v ws p q low apart =
     ap₂ (λ (x y : Word). set (set (holding v ws p) p (withPayload y x)) q (withPayload x y)) here there
@@ -30,7 +48,7 @@ exchange-held v ws p q low apart =
     (λ (us : List Word). set us q (withPayload v (at ws q)))
     (set-set ws p (withPayload v (at ws p)) (withPayload (at ws q) (at ws p)))
     ∙ ap
-    (λ (w : Word). set (set ws p (withPayload (at ws q) (at ws p))) q (withPayload v w))
+    (λ (w : Word). set (holding (at ws q) ws p) q (withPayload v w))
     (sym (getD-set-other ws p q (withPayload (at ws q) (at ws p)) zeroWord apart))
   where
     here : at (holding v ws p) p ≡ withPayload v (at ws p)
@@ -47,22 +65,34 @@ beside-hand hand goal apart = go (heads hand goal apart)
     go (rightward lt) = omega arith
     go (leftward lt) = omega arith
 
--- a move with the payload held
+-- all the moves with a payload held at the hand's place are the shifts, and then that payload at the goal
 moves-held :
     (n : ℕ) (v : Word) (ws : List Word) (hand goal : ℕ) →
     hand < length ws →
-    (hand ≡ goal → ⊥) →
-    moves (suc n) (holding v ws hand) hand goal
-    ≡ moves
-    n
-    (holding v (set ws hand (withPayload (at ws (toward hand goal)) (at ws hand))) (toward hand goal))
-    (toward hand goal)
-    goal
-unfolding moves
-moves-held n v ws hand goal low apart =
+    goal < length ws →
+    distance hand goal ≡ n →
+    moves n (holding v ws hand) hand goal ≡ holding v (shifts n ws hand goal) goal
+unfolding moves shifts
+moves-held zero v ws hand goal low near count = ap (holding v ws) (distance-none hand goal count)
+moves-held (suc n) v ws hand goal low near count =
     ap
     (λ (us : List Word). moves n us (toward hand goal) goal)
     (exchange-held v ws hand (toward hand goal) low (beside-hand hand goal apart))
+    ∙ moves-held
+    n
+    v
+    (holding (at ws (toward hand goal)) ws hand)
+    (toward hand goal)
+    goal
+    (omega (arith, size, toward-lt hand goal (length ws) apart low near))
+    (omega (arith, size))
+    (omega (arith, distance-toward hand goal apart))
+  where
+    apart : hand ≡ goal → ⊥
+    apart = distance-some hand goal n count
+
+    size : length (holding (at ws (toward hand goal)) ws hand) ≡ length ws
+    size = length-set ws hand (withPayload (at ws (toward hand goal)) (at ws hand))
 
 -- a place whose two bytes are among the lent ones has a word
 word-inside : (bs : List ℕ) (p : ℕ) → 2 * p + 1 < length bs → p < length (wordsOf bs)
@@ -72,106 +102,80 @@ word-inside (low ∷ []) p h = absurd (omega arith)
 word-inside (low ∷ high ∷ bs) zero h = omega arith
 word-inside (low ∷ high ∷ bs) (suc p) h = let i = word-inside bs p (omega arith) in omega arith
 
--- ---- the loop, on the lent bytes, the numbers of the held word and of the word that stood where the hand is, and the
--- number of moves that are left
+-- the payload that is held is the one at the hand
+pub moves-shift :
+    (bs : List ℕ) (hand goal : ℕ) →
+    2 * hand + 1 < length bs →
+    2 * goal + 1 < length bs →
+    holding (at (wordsOf bs) hand) (shifts (distance hand goal) (wordsOf bs) hand goal) goal
+    ≡ moves (distance hand goal) (wordsOf bs) hand goal
+moves-shift bs hand goal low near =
+    sym
+    (moves-held
+    (distance hand goal)
+    (at (wordsOf bs) hand)
+    (wordsOf bs)
+    hand
+    goal
+    (word-inside bs hand low)
+    (word-inside bs goal near)
+    refl)
+    ∙ ap (λ (us : List Word). moves (distance hand goal) us hand goal) (set-getD (wordsOf bs) hand zeroWord)
 
-pub record Carrying (bs₀ : List ℕ) (hand₀ goal held : ℕ) (bs : List ℕ) (n hand own : ℕ) : Type 0 where
+-- ---- the loops, on the lent bytes: the shifts that are left give what all give from the start
+
+pub record Shifting (bs₀ : List ℕ) (hand₀ goal : ℕ) (bs : List ℕ) (hand : ℕ) : Type 0 where
   pub size : length bs ≡ length bs₀
   pub here : 2 * hand + 1 < length bs₀
   pub there : 2 * goal + 1 < length bs₀
-  pub count : n ≡ distance hand goal
-  pub stood : wordOf own ≡ at (wordsOf bs) hand
   pub rest :
-      moves (distance hand₀ goal) (wordsOf bs₀) hand₀ goal
-      ≡ moves n (holding (wordOf held) (wordsOf bs) hand) hand goal
+      shifts (distance hand₀ goal) (wordsOf bs₀) hand₀ goal ≡ shifts (distance hand goal) (wordsOf bs) hand goal
 
-pub carry-begins :
-    (bs : List ℕ) (n hand goal held : ℕ) →
-    2 * hand + 1 < length bs →
-    2 * goal + 1 < length bs →
-    n ≡ distance hand goal →
-    wordOf held ≡ at (wordsOf bs) hand → Carrying bs hand goal held bs n hand held
-carry-begins bs n hand goal held low near count read =
-    record {
-      size = refl;
-      here = low;
-      there = near;
-      count = count;
-      stood = read;
-      rest =
-          ap₂
-          (λ (m : ℕ) (us : List Word). moves m us hand goal)
-          (sym count)
-          (sym (set-getD (wordsOf bs) hand zeroWord) ∙ ap (λ (v : Word). holding v (wordsOf bs) hand) (sym read));
-    }
+-- the neighbour on the goal's side is the one towards the goal
+heads-toward : {hand goal next : ℕ} → Heads hand goal next → toward hand goal ≡ next
+unfolding toward
+heads-toward {hand} {goal} (rightward lt) = rw (lt-ltb hand goal lt)
+heads-toward {hand} {goal} (leftward lt) = rw (le-ltb hand goal (omega arith))
 
-module _ {bs₀ : List ℕ} {hand₀ goal held : ℕ} {bs : List ℕ} {n hand own : ℕ}
-    (c : Carrying bs₀ hand₀ goal held bs n hand own)
-  where
-    -- while moves are left the hand is apart from its goal, and its neighbour is a place of the table
-    pub carry-apart : 0 < n → hand ≡ goal → ⊥
-    unfolding distance
-    carry-apart more same = omega (arith, c .count)
+heads-apart : {hand goal next : ℕ} → Heads hand goal next → hand ≡ goal → ⊥
+heads-apart (rightward lt) same = omega arith
+heads-apart (leftward lt) same = omega arith
 
-    pub carry-near : (next : ℕ) → 0 < n → next ≡ toward hand goal → 2 * next + 1 < length bs
-    carry-near next more step =
-        omega (arith, toward-lt hand goal (length bs₀ / 2) (carry-apart more) (omega arith) (omega arith))
-
-    -- the neighbour's word is read, and its payload written at the hand
-    pub carry-moves :
-        (next w k : ℕ) (cs : List ℕ) →
-        0 < n →
-        next ≡ toward hand goal →
-        wordOf w ≡ at (wordsOf bs) next →
-        wordOf k ≡ withPayload (wordOf w) (wordOf own) →
-        length cs ≡ length bs →
-        wordsOf cs ≡ set (wordsOf bs) hand (wordOf k) → Carrying bs₀ hand₀ goal held cs (n - 1) next w
-    carry-moves next w k cs more step read made size write =
-        record {
-          size = size ∙ c .size;
-          here = omega (arith, carry-near next more step);
-          there = c .there;
-          count = rw step (omega (arith, c .count, distance-toward hand goal apart));
-          stood =
-              read
-              ∙ sym (getD-set-other (wordsOf bs) hand next (wordOf k) zeroWord aside)
-              ∙ ap (λ (us : List Word). at us next) (sym write);
-          rest =
-              c .rest
-              ∙ ap (λ (m : ℕ). moves m (holding (wordOf held) (wordsOf bs) hand) hand goal) one-more
-              ∙ moves-held (n - 1) (wordOf held) (wordsOf bs) hand goal (word-inside bs hand (omega arith)) apart
-              ∙ (λ j. moves (n - 1) (holding (wordOf held) (sym written j) (sym step j)) (sym step j) goal);
-        }
-      where
-        apart : hand ≡ goal → ⊥
-        apart = carry-apart more
-
-        aside : next ≢ hand
-        aside = rw step (beside-hand hand goal apart)
-
-        one-more : n ≡ suc (n - 1)
-        one-more = omega arith
-
-        written :
-            wordsOf cs
-            ≡ set (wordsOf bs) hand (withPayload (at (wordsOf bs) (toward hand goal)) (at (wordsOf bs) hand))
-        written =
-            write
+module _ {bs₀ : List ℕ} {hand₀ goal : ℕ} {bs : List ℕ} {hand : ℕ} (s : Shifting bs₀ hand₀ goal bs hand) where
+  -- the payload of the neighbour towards the goal is written at the hand
+  pub shift-on :
+      (next v w k : ℕ) (cs : List ℕ) →
+      Heads hand goal next →
+      wordOf v ≡ at (wordsOf bs) next →
+      wordOf w ≡ at (wordsOf bs) hand →
+      wordOf k ≡ withPayload (wordOf v) (wordOf w) →
+      length cs ≡ length bs →
+      wordsOf cs ≡ set (wordsOf bs) hand (wordOf k) → Shifting bs₀ hand₀ goal cs next
+  unfolding shifts
+  shift-on next v w k cs side read own made size write =
+      record {
+        size = size ∙ s .size;
+        here = near side;
+        there = s .there;
+        rest =
+            s .rest
+            ∙ ap (λ (n : ℕ). shifts n (wordsOf bs) hand goal) (distance-toward hand goal (heads-apart side))
             ∙ ap
-            (set (wordsOf bs) hand)
-            (made ∙ ap₂ withPayload (read ∙ ap (at (wordsOf bs)) step) (c .stood))
+            (λ (q : ℕ). shifts (distance q goal) (holding (at (wordsOf bs) q) (wordsOf bs) hand) q goal)
+            (heads-toward side)
+            ∙ ap (λ (us : List Word). shifts (distance next goal) us next goal) (sym written);
+      }
+    where
+      near : {q : ℕ} → Heads hand goal q → 2 * q + 1 < length bs₀
+      near (rightward lt) = omega (arith, s .there)
+      near (leftward lt) = omega (arith, s .here)
 
-    -- where none is left the held payload is written
-    pub carry-ends :
-        (k : ℕ) (cs : List ℕ) →
-        n ≤ 0 →
-        wordOf k ≡ withPayload (wordOf held) (wordOf own) →
-        wordsOf cs ≡ set (wordsOf bs) hand (wordOf k) →
-        wordsOf cs ≡ moves (distance hand₀ goal) (wordsOf bs₀) hand₀ goal
-    unfolding moves
-    carry-ends k cs none made write =
-        let end : n ≡ 0 = omega arith in
-        write
-        ∙ ap (set (wordsOf bs) hand) (made ∙ ap (withPayload (wordOf held)) (c .stood))
-        ∙ ap (λ (m : ℕ). moves m (holding (wordOf held) (wordsOf bs) hand) hand goal) (sym end)
-        ∙ sym (c .rest)
+      written : wordsOf cs ≡ holding (at (wordsOf bs) next) (wordsOf bs) hand
+      written = write ∙ ap (set (wordsOf bs) hand) (made ∙ ap₂ withPayload read own)
+
+  -- at the goal none is left
+  pub shift-ends : hand ≡ goal → wordsOf bs ≡ shifts (distance hand₀ goal) (wordsOf bs₀) hand₀ goal
+  unfolding shifts distance
+  shift-ends same =
+      let none : (hand - goal) + (goal - hand) ≡ 0 = omega arith in
+      sym (s .rest ∙ ap (λ (n : ℕ). shifts n (wordsOf bs) hand goal) none)
