@@ -1,5 +1,5 @@
 -- A read of a home's cluster from its left end, `Beside`: where its group begins, counted from the home (`start-right`,
--- `start-left`), and what is read there, `readFrom`. `read-from`: where the cluster has a home for each of its groups,
+-- `start-left`, `begins`), and what is read there, `readFrom`. `read-from`: where the cluster has a home for each of its groups,
 -- that is the rule's read of its keys, wherever it ends.
 -- Assumes nothing.
 use Prim.Native.Nat.{ℕ, suc, _+_, _-_, _*_, _≤_, _<_}
@@ -25,7 +25,6 @@ use Rattle.cluster.specs.Group.{placesOf, wordsFrom, passed, more, readS
 use Rattle.cluster.specs.Group.{virgins-below, virgins-above, virgins-append, pass-groups, pass-later, read-group}
 use Rattle.cluster.specs.Group.{split-run, passed-front, passed-beyond, passed-left, group-front, group-there}
 use Rattle.cluster.specs.declared.read.Read.{Read}
-use Rattle.cluster.specs.declared.read.Seen.{Seen}
 use Rattle.cluster.specs.declared.gaps.End.{End}
 
 -- how many words the groups of a run have, all but the last k
@@ -55,20 +54,19 @@ module _ (bs : List ℕ) (a i : ℕ) (from : a ≤ i) (within : 2 * (i + 1) ≤ 
         ∙ counts isChange (slice a i (wordsOf bs)) (at (wordsOf bs) i ∷ [])
         ∙ rw (← word) (omega (arith, bit))
 
-    pub back-fewer :
-        x ≤ k → k ≤ count isChange (slice a (i + 1) (wordsOf bs)) → k - x ≤ count isChange (slice a i (wordsOf bs))
-    back-fewer few left = omega (arith, one-counted)
-
     pub back-on :
         x ≤ k → k ≤ count isChange (slice a (i + 1) (wordsOf bs)) →
-        allBut (k - x) (slice a i (wordsOf bs)) ≡ allBut k (slice a (i + 1) (wordsOf bs))
+        (k - x ≤ count isChange (slice a i (wordsOf bs)))
+        × (allBut (k - x) (slice a i (wordsOf bs)) ≡ allBut k (slice a (i + 1) (wordsOf bs)))
     back-on few left =
         let us = slice a i (wordsOf bs) in
         let same : count isChange (slice a (i + 1) (wordsOf bs)) - k ≡ count isChange us - (k - x) =
-            omega (arith, one-counted) in
-        sym
-        (ap₂ passed one-more same
-        ∙ passed-front us (at (wordsOf bs) i ∷ []) (count isChange us - (k - x)) (omega arith))
+            omega (arith, one-counted) in (
+          omega (arith, one-counted),
+          sym
+              (ap₂ passed one-more same
+              ∙ passed-front us (at (wordsOf bs) i ∷ []) (count isChange us - (k - x)) (omega arith)),
+        )
 
     pub back-stop : k < x → i + 1 ≡ a + allBut k (slice a (i + 1) (wordsOf bs))
     unfolding passed
@@ -112,6 +110,12 @@ pub record Beside (bs : List ℕ) (l : End) (home : ℕ) : Type 0 where
 -- how many words stand before the home's group: those of the groups of the homes left of it
 abbrev pub groupStart : List ℕ → ℕ → ℕ → ℕ
 groupStart bs l home = passed (wordsFrom bs (l + 1)) (count isVirgin (slice (l + 1) home (wordsOf bs)))
+
+-- the home's group begins at place p, or would; if the home is one, the group's end is in the table
+pub record Begins (bs : List ℕ) (l p home : ℕ) : Type 0 where
+  pub within : 2 * home + 1 < length bs
+  pub place : p ≡ l + 1 + groupStart bs l home
+  pub ends : at (wordsOf bs) home .virgin ≡ true → 1 ≤ count isChange (wordsFrom bs p)
 
 module _ {bs : List ℕ} {l : End} {home : ℕ} (b : Beside bs l home) where
   abbrev first : ℕ
@@ -163,15 +167,25 @@ module _ {bs : List ℕ} {l : End} {home : ℕ} (b : Beside bs l home) where
         passed-front (slice first home (wordsOf bs)) (wordsFrom bs home) (l .virgins) (omega (arith, b .changes)),
       )
 
-  -- where the home is one, its group is there
-  pub group-here :
-      (p : ℕ) → p ≡ first + passed (wordsFrom bs first) (l .virgins) → at (wordsOf bs) home .virgin ≡ true →
-      1 ≤ count isChange (wordsFrom bs p)
-  group-here p place virgin =
-      let n = passed (wordsFrom bs first) (l .virgins) in
-      let rest : wordsFrom bs p ≡ drop n (wordsFrom bs first) =
-          rw place (sym (drop-drop n first (take (placesOf bs) (wordsOf bs)))) in
-      rw rest (omega (arith, b .next virgin, passed-left (wordsFrom bs first) (l .virgins) (b .few)))
+  -- the groups of the homes left of it, as they are counted
+  pub start-is : first + passed (wordsFrom bs first) (l .virgins) ≡ first + groupStart bs (l .gap .0) home
+  start-is = ap (λ (k : ℕ). first + passed (wordsFrom bs first) k) (b .virgins)
+
+  -- there the home's group begins, if the home is one
+  pub begins : (p : ℕ) → p ≡ first + groupStart bs (l .gap .0) home → Begins bs (l .gap .0) p home
+  begins p place =
+      record {
+        within = b .within;
+        place = place;
+        ends =
+            λ (virgin : at (wordsOf bs) home .virgin ≡ true).
+            rw
+            (place ∙ sym start-is, sym (drop-drop n first (take (placesOf bs) (wordsOf bs))))
+            (omega (arith, b .next virgin, passed-left (wordsFrom bs first) (l .virgins) (b .few)));
+      }
+    where
+      n : ℕ
+      n = passed (wordsFrom bs first) (l .virgins)
 
 -- ---- what is read
 unfoldable pub readFrom : List ℕ → ℕ → Entry → Read
@@ -180,36 +194,24 @@ readFrom bs l e =
     (groupRead e (more (groupStart bs l (e .home)) unseen) (wordsFrom bs (l + 1 + groupStart bs l (e .home))))
     (readSeen (more (groupStart bs l (e .home)) unseen))
 
--- as the code has it: the place p after the groups of the homes left of it, n words on the way
-module _ {bs : List ℕ} {l : End} (e : Entry) (b : Beside bs l (e .home)) (p n : ℕ)
-    (place : p ≡ l .gap .0 + 1 + passed (wordsFrom bs (l .gap .0 + 1)) (l .virgins))
-    (way : n ≡ p - (l .gap .0 + 1))
-  where
-    start : p ≡ l .gap .0 + 1 + groupStart bs (l .gap .0) (e .home)
-    start =
-        place
-        ∙ ap (λ (k : ℕ). l .gap .0 + 1 + passed (wordsFrom bs (l .gap .0 + 1)) k) (b .virgins)
+-- as the code has it, with so many words before the place p
+module _ {bs : List ℕ} {l p : ℕ} (e : Entry) (b : Begins bs l p (e .home)) (n : ℕ) (way : n ≡ p - (l + 1)) where
+  words-before : n ≡ groupStart bs l (e .home)
+  words-before = omega (arith, b .place, way)
 
-    seen :
-        record { held = false; smaller = n; grouped = false; largest = true }
-        ≡ more (groupStart bs (l .gap .0) (e .home)) unseen
-    seen =
-        let words : n ≡ 0 + groupStart bs (l .gap .0) (e .home) = omega (arith, start, way) in
-        ap (λ (j : ℕ). record { held = false; smaller = j; grouped = false; largest = true }) words
+  pub read-own :
+      at (wordsOf bs) (e .home) .virgin ≡ true → groupRead e (more n unseen) (wordsFrom bs p) ≡ readFrom bs l e
+  unfolding readFrom
+  read-own virgin =
+      rw virgin (ap₂ (λ (k i : ℕ). groupRead e (more k unseen) (wordsFrom bs i)) words-before (b .place))
 
-    pub read-own :
-        at (wordsOf bs) (e .home) .virgin ≡ true →
-        groupRead e (record { held = false; smaller = n; grouped = false; largest = true }) (wordsFrom bs p)
-        ≡ readFrom bs (l .gap .0) e
-    unfolding readFrom
-    read-own virgin = rw virgin (ap₂ (λ (s : Seen) (i : ℕ). groupRead e s (wordsFrom bs i)) seen start)
-
-    pub read-new :
-        at (wordsOf bs) (e .home) .virgin ≡ false →
-        readSeen (record { held = false; smaller = n; grouped = false; largest = true })
-        ≡ readFrom bs (l .gap .0) e
-    unfolding readFrom
-    read-new none = rw none (ap readSeen seen)
+  pub read-new :
+      at (wordsOf bs) (e .home) .virgin ≡ false →
+      record { held = false; smaller = n; mark = 2 } ≡ readFrom bs l e
+  unfolding readFrom
+  read-new none =
+      let all : n ≡ 0 + groupStart bs l (e .home) = omega (arith, words-before) in
+      rw none (ap (λ (k : ℕ). record { held = false; smaller = k; mark = 2 }) all)
 
 module _ (e : Entry) (bs : List ℕ) (l r : ℕ) (after-l : l < e .home) (before-r : e .home < r)
     (within : 2 * r ≤ length bs) (small : r ≤ 4294967295) (housed : Housed (between (wordsOf bs) l r))

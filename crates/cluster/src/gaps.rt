@@ -15,13 +15,6 @@ ghost use Rattle.rules.specs.Table as spec;
 ghost use Rattle.rules.specs.Table.{at, leftGap, rightGap};
 ghost use Rattle.cluster.specs.Ends.{leftEnd, rightEnd};
 
-// An end of a home's cluster: the gap there, and the virgin and change bits that were counted on the way to it.
-pub struct End {
-    pub gap: Place,
-    pub virgins: u32,
-    pub changes: u32,
-}
-
 fn taken(table: &[u8], p: Place) -> bool
     requires { ⌜ 2 * p .0 + 1 < length (now table) ⌝ }
     ensures { λ b. ⌜ b ≡ getD (spec.occupied (wordsOf (now (table .entry)))) (p .0) false ⌝ }

@@ -17,9 +17,9 @@ ghost use Rattle.rules.specs.Bytes.{wordsOf};
 ghost use Rattle.theory.specs.Dealt.{isChange};
 ghost use Rattle.cluster.specs.Homes.{homesFrom, firstOf};
 ghost use Rattle.cluster.specs.Read as spec;
-ghost use Rattle.cluster.specs.Read.{entry};
-ghost use Rattle.cluster.specs.Group.{wordsFrom, passed, readSeen, groupRead};
-ghost use Rattle.cluster.specs.Beside.{allBut, Beside, readFrom};
+ghost use Rattle.cluster.specs.Read.{entry, unseen};
+ghost use Rattle.cluster.specs.Group.{wordsFrom, passed, more, readSeen, groupRead};
+ghost use Rattle.cluster.specs.Beside.{allBut, Beside, groupStart, Begins, readFrom};
 
 // Is the key there, how many keys are smaller, and the mark: 2 if its group is new, 1 if it is larger than all of its
 // group, else 0.
@@ -130,11 +130,14 @@ fn pass_back(table: &[u8], l: Place, home: Place, k: u32) -> Place
     let mut i = home.0 - 1;
     while i > end {
         let w = word_at(table, Place(i));
-        let b = bit_of(change(w));
-        if left < b {
-            return Place(i + 1);
+        if change(w) {
+            if left == 0 {
+                return Place(i + 1);
+            } else {
+                left -= 1;
+                i -= 1;
+            }
         } else {
-            left -= b;
             i -= 1;
         }
     }
@@ -143,9 +146,9 @@ fn pass_back(table: &[u8], l: Place, home: Place, k: u32) -> Place
 
 // Where the home's group begins or would: the groups of the homes left of it are passed over. The way is counted from
 // the home, to the right if more homes than groups' ends stand left of it, else to the left.
-fn group_start(table: &[u8], l: End, home: Place) -> Place
+pub fn group_start(table: &[u8], l: End, home: Place) -> Place
     requires { ⌜ Beside (now table) l (home .0) ⌝ }
-    ensures { λ p. ⌜ p .0 ≡ l .gap .0 + 1 + passed (wordsFrom (now (table .entry)) (l .gap .0 + 1)) (l .virgins) ⌝ }
+    ensures { λ p. ⌜ p .0 ≡ l .gap .0 + 1 + groupStart (now (table .entry)) (l .gap .0) (home .0) ⌝ }
 {
     if l.changes < l.virgins {
         return pass_groups(table, home, l.virgins - l.changes);
@@ -154,12 +157,18 @@ fn group_start(table: &[u8], l: End, home: Place) -> Place
     }
 }
 
-// The words from p on are the group of the home: they are looked at up to its end.
-fn read_group(table: &[u8], p: Place, home: Place, x: u16, before: Seen) -> Read
-    requires { ⌜ 1 ≤ count isChange (wordsFrom (now table) (p .0)) ⌝ ∗ ⌜ before .smaller ≤ p .0 ⌝ }
-    ensures { λ a. ⌜ a ≡ groupRead (entry (home .0) x) before (wordsFrom (now (table .entry)) (p .0)) ⌝ }
+// The words from p on are the group of a home, with so many keys before it: they are looked at up to its end.
+fn read_group(table: &[u8], p: Place, x: u16, before: u32) -> Read
+    requires { ⌜ 1 ≤ count isChange (wordsFrom (now table) (p .0)) ⌝ ∗ ⌜ before ≤ p .0 ⌝ }
+    ensures { λ a. ⌜ ((home : ℕ) →
+        a ≡ groupRead (entry home x) (more before unseen) (wordsFrom (now (table .entry)) (p .0))) ⌝ }
 {
-    let mut seen = before;
+    let mut seen = Seen {
+        held: false,
+        smaller: before,
+        grouped: false,
+        largest: true,
+    };
     let mut i = p.0;
     let mut w = word_at(table, p);
     while !change(w) {
@@ -170,22 +179,19 @@ fn read_group(table: &[u8], p: Place, home: Place, x: u16, before: Seen) -> Read
     read_of(look(seen, x, remainder(w)))
 }
 
-// The key of home and remainder x, in the cluster of its home with the left end l.
-pub fn read_beside(table: &[u8], l: End, home: Place, x: u16) -> Read
-    requires { ⌜ Beside (now table) l (home .0) ⌝ }
-    ensures { λ a. ⌜ a ≡ readFrom (now (table .entry)) (l .gap .0) (entry (home .0) x) ⌝ }
+// The key of home and remainder x, in the cluster after the gap l: p is where the home's group begins or would.
+pub fn read_from(table: &[u8], l: Place, p: Place, home: Place, x: u16) -> Read
+    requires { ⌜ Begins (now table) (l .0) (p .0) (home .0) ⌝ }
+    ensures { λ a. ⌜ a ≡ readFrom (now (table .entry)) (l .0) (entry (home .0) x) ⌝ }
 {
-    let first = l.gap.0 + 1;
-    let p = group_start(table, l, home);
-    let seen = Seen {
-        held: false,
-        smaller: p.0 - first,
-        grouped: false,
-        largest: true,
-    };
+    let before = p.0 - (l.0 + 1);
     if virgin(word_at(table, home)) {
-        read_group(table, p, home, x, seen)
+        return read_group(table, p, x, before);
     } else {
-        read_of(seen)
+        return Read {
+            held: false,
+            smaller: before,
+            mark: 2,
+        };
     }
 }

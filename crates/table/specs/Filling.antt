@@ -31,11 +31,8 @@ use Rattle.theory.specs.Gaps.{HomePlace}
 use Rattle.theory.specs.Finding.{surroundings, around-free}
 use Rattle.words.specs.Range.{InRange, remainders-high}
 use Rattle.words.specs.Split.{InShape, split-in-shape}
-use Rattle.words.specs.declared.place.Place.{Place}
-use Rattle.rules.specs.Table.{at, occupied, leftGap, rightGap}
 use Rattle.rules.specs.Find.{soundAround}
-use Rattle.table.specs.declared.around.Around.the-variants.{Empty, Cluster}
-use Rattle.table.specs.Around.{Looks, alone, inside}
+use Rattle.table.specs.Around.{Open}
 use Rattle.table.specs.Key.{home-place}
 use Rattle.theory.specs.Pairs.{table-tight, tight-taken}
 use Rattle.theory.specs.Putting.{Puts, found, inserted, overflow, put-table, table-guarded}
@@ -289,11 +286,5 @@ module _ {sh : Shape} {ws : List Word} (e : Entry) (range : InRange sh) (i : InS
       (c .state .table)
       .sound
 
-  pub clean-alone : at ws (e .home) .occupied ≡ false → Looks sh ws (e .home) Empty
-  clean-alone empty = alone around-sound (around-free ws (e .home) (c .state .free)) empty
-
-  pub clean-inside :
-      (l r : Place) → l .0 ≡ leftGap (occupied ws) (e .home) → r .0 ≡ rightGap (occupied ws) (e .home) →
-      at ws (e .home) .occupied ≡ true → Looks sh ws (e .home) (Cluster l r)
-  clean-inside l r left right full =
-      rw (left, right) (inside around-sound (around-free ws (e .home) (c .state .free)) full)
+  pub clean-open : Open sh ws (e .home)
+  clean-open = record { sound = around-sound; free = around-free ws (e .home) (c .state .free) }

@@ -1,32 +1,51 @@
--- Find by what is around the home: `found-by`.
+-- Find by what is around the home: `found-barred`, `found-alone`, `found-unsound`, `found-locked`, `found-inside`.
 -- Assumes nothing.
 use mathlib.Core.Path.{_≡_}
+use mathlib.Core.Bool.{true, false, cond}
 use mathlib.Core.List.{List}
 use lib.ListN.{length}
 use Rattle.rules.specs.declared.Shape.{Shape}
 use Rattle.rules.specs.Lists.{bitOf, any}
-use Rattle.rules.specs.Word.{Word}
+use Rattle.rules.specs.Word.{Word, isVoid}
 use Rattle.rules.specs.Shape.{places}
 use Rattle.rules.specs.Entry.{Entry}
-use Rattle.rules.specs.Table.{entriesBetween}
+use Rattle.rules.specs.Table.{at, guardsVoid, clusterEntries}
 use Rattle.rules.specs.Lay.{holds}
-use Rattle.rules.specs.Answer.{Answer, says, refuses, numberOfRefusal}
-use Rattle.rules.specs.Find.{findIn}
+use Rattle.rules.specs.Answer.{Answer, says, refuses}
+use Rattle.rules.specs.Find.{soundAround, lockedAround, findIn}
 use Rattle.theory.specs.Gaps.{HomePlace}
-use Rattle.table.specs.declared.around.Around.{Around}
-use Rattle.table.specs.declared.around.Around.the-variants.{Refused, Empty, Cluster}
-use Rattle.table.specs.Around.{Looks, unsound, barred, alone, inside, alone-entries, cluster-inside}
+use Rattle.table.specs.Around.{Open, around-barred, alone-sound, alone-locked, alone-entries}
 
-abbrev pub findBy : List Word → Entry → Around → Answer
-findBy ws e (Refused n) = refuses (numberOfRefusal n)
-findBy ws e Empty = says 0
-findBy ws e (Cluster l r) = says (bitOf (holds e (entriesBetween ws (l .0) (r .0))))
+-- at an empty home, by its word
+abbrev pub aloneSays : Word → Answer
+aloneSays w = cond (isVoid w) (cond (w .lock) (refuses 7) (says 0)) (refuses 6)
 
-pub found-by :
-    {sh : Shape} {ws : List Word} (e : Entry) {a : Around} →
-    length ws ≡ places sh → HomePlace sh (e .home) → Looks sh ws (e .home) a → findIn sh ws e ≡ findBy ws e a
-unfolding findIn holds any
-found-by e size h (unsound s) = rw s
-found-by e size h (barred s l) = rw (s, l)
-found-by e size h (alone s f o) = rw (s, f, alone-entries size h (alone s f o))
-found-by e size h (inside s f o) = rw (s, f, cluster-inside _ _ size h (inside s f o) .entries)
+module _ (sh : Shape) (ws : List Word) (e : Entry) where
+  pub found-barred : guardsVoid sh ws ≡ false → findIn sh ws e ≡ refuses 6
+  unfolding findIn
+  found-barred barred = rw (around-barred sh ws (e .home) barred)
+
+  pub found-alone :
+      guardsVoid sh ws ≡ true → length ws ≡ places sh → HomePlace sh (e .home) → at ws (e .home) .occupied ≡ false →
+      findIn sh ws e ≡ aloneSays (at ws (e .home))
+  unfolding findIn holds any
+  found-alone void size h empty =
+      rw (
+        alone-sound sh ws (e .home) void size h empty,
+        alone-locked sh ws (e .home) void size h empty,
+        alone-entries sh ws (e .home) void size h empty,
+      )
+
+  pub found-unsound : soundAround sh ws (e .home) ≡ false → findIn sh ws e ≡ refuses 6
+  unfolding findIn
+  found-unsound s = rw s
+
+  pub found-locked :
+      soundAround sh ws (e .home) ≡ true → lockedAround ws (e .home) ≡ true → findIn sh ws e ≡ refuses 7
+  unfolding findIn
+  found-locked s l = rw (s, l)
+
+  pub found-inside :
+      Open sh ws (e .home) → findIn sh ws e ≡ says (bitOf (holds e (clusterEntries ws (e .home))))
+  unfolding findIn
+  found-inside o = rw (o .sound, o .free)

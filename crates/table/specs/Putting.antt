@@ -1,10 +1,10 @@
--- Put by what is around the home: `put-by`. Where the key goes on to be added beside its cluster: `added-left`,
--- `added-right`, `added-none`, and the bounds of its way, `reach`.
+-- Put by what is around the home: `put-barred`, `put-empty`, `put-unsound`, `put-locked`, `put-inside`. Where the key
+-- goes on to be added beside its cluster: `added-left`, `added-right`, `added-none`, and the bounds of its way, `reach`.
 -- `bytes-left`: what is said of the words that put leaves is said of every lent byte.
 -- Assumes nothing.
 use Prim.Native.Nat.{ℕ, suc, _+_, _-_, _*_, _≤_, _<_}
 use mathlib.Core.Path.{_≡_, refl, sym, _∙_, ap}
-use mathlib.Core.Bool.{true, false, cond}
+use mathlib.Core.Bool.{Bool, true, false, cond}
 use mathlib.Core.List.{List, [], _∷_}
 use native.Mathlib.Omega.{arith}
 use lib.ListN.{length, getD, set}
@@ -12,21 +12,21 @@ use lib.Seq.{length-slice}
 use borrow.Author.Tests.{eq-eqb, ne-eqb}
 use Rattle.rules.specs.declared.Shape.{Shape}
 use Rattle.rules.specs.Lists.{any}
-use Rattle.rules.specs.Word.{Word}
+use Rattle.rules.specs.Word.{Word, isVoid}
 use Rattle.rules.specs.Bytes.{wordsOf}
 use Rattle.rules.specs.Shape.{places, rightGuard}
 use Rattle.rules.specs.Entry.{Entry, precedes}
-use Rattle.rules.specs.Table.{at, occupied, leftGap, rightGap, between}
+use Rattle.rules.specs.Table.{at, occupied, leftGap, rightGap, between, guardsVoid}
 use Rattle.rules.specs.Table.{virginPlaces, deal, entriesBetween, clusterEntries}
 use Rattle.rules.specs.Room.{roomBeside, roomFor}
 use Rattle.rules.specs.Lay.{holds}
-use Rattle.rules.specs.Answer.{Answer, says, refuses, numberOfRefusal, Leaves, leaves}
+use Rattle.rules.specs.Answer.{Answer, says, refuses, Leaves, leaves}
 use Rattle.rules.specs.Find.{soundAround, lockedAround}
 use Rattle.rules.specs.Put.{enlargedFrom, addAt, Outcome, keeps, writes, addTo, putIn, bytesAfter}
 use Rattle.rules.specs.Phase.{aloneWord, smaller, markOf}
 use Rattle.words.specs.Range.{InRange, remainders-high}
 use Rattle.words.specs.Split.{InShape}
-use Rattle.words.specs.Layout.{same-bytes, bytes-are}
+use Rattle.words.specs.Layout.{same-bytes, bytes-are, words-length}
 use Rattle.words.specs.declared.place.Place.{Place}
 use Rattle.theory.specs.Gaps as gaps
 use Rattle.theory.specs.Places.{occupied-at}
@@ -34,9 +34,11 @@ use Rattle.theory.specs.Motion.{fillAt, finish}
 use Rattle.theory.specs.Moving.{Addable, add-moves, room-alone, add-alone}
 use Rattle.cluster.specs.declared.read.Read.{Read}
 use Rattle.cluster.specs.Read.{readOf}
-use Rattle.table.specs.declared.around.Around.{Around}
-use Rattle.table.specs.declared.around.Around.the-variants.{Refused, Empty, Cluster}
-use Rattle.table.specs.Around.{Looks, unsound, barred, alone, inside, alone-entries, cluster-inside, Inside}
+use Rattle.cluster.specs.Ends.{leftEnd}
+use Rattle.cluster.specs.Beside.{readFrom}
+use Rattle.cluster.specs.declared.gaps.End.{End}
+use Rattle.table.specs.Around.{Open, open-guards, around-barred, alone-sound, alone-locked, alone-entries}
+use Rattle.table.specs.Around.{Inside, cluster-inside, read-cluster}
 use Rattle.table.specs.Count.{count-few}
 use Rattle.table.specs.Key.{home-place}
 
@@ -68,49 +70,85 @@ addBeside sh ws e = addTo ws e (roomBeside sh (occupied ws) (e .home))
 abbrev pub putAmong : Shape → List Word → Entry → List Entry → Outcome
 putAmong sh ws e es = cond (holds e es) (keeps (says 1)) (addBeside sh ws e)
 
-abbrev pub putBy : Shape → List Word → Entry → Around → Outcome
-putBy sh ws e (Refused n) = keeps (refuses (numberOfRefusal n))
-putBy sh ws e Empty = writes (says 2) (set ws (e .home) (aloneWord (e .remainder)))
-putBy sh ws e (Cluster l r) = putAmong sh ws e (entriesBetween ws (l .0) (r .0))
+-- the key is put where its home is empty, by the home's word
+abbrev pub putAlone : List Word → Entry → Outcome
+putAlone ws e = writes (says 2) (set ws (e .home) (aloneWord (e .remainder)))
+
+abbrev pub putEmpty : List Word → Entry → Outcome
+putEmpty ws e =
+    cond (isVoid (at ws (e .home)))
+    (cond (at ws (e .home) .lock) (keeps (refuses 7)) (putAlone ws e))
+    (keeps (refuses 6))
 
 addable :
     {sh : Shape} {ws : List Word} {e : Entry} →
-    InRange sh → InShape sh e → length ws ≡ places sh → soundAround sh ws (e .home) ≡ true →
-    lockedAround ws (e .home) ≡ false → holds e (clusterEntries ws (e .home)) ≡ false → Addable sh ws e
-addable {sh} range i size sound free new =
+    InRange sh → InShape sh e → length ws ≡ places sh → Open sh ws (e .home) →
+    holds e (clusterEntries ws (e .home)) ≡ false → Addable sh ws e
+addable {sh} range i size o new =
     record {
       low = remainders-high sh range;
       remainder = i .remainder-low;
       home = home-place i;
       size = size;
-      sound = sound;
-      free = free;
+      sound = o .sound;
+      free = o .free;
       new = new;
     }
 
-module _ {sh : Shape} {ws : List Word} (e : Entry)
+module _ (sh : Shape) (ws : List Word) (e : Entry)
     (range : InRange sh) (i : InShape sh e) (size : length ws ≡ places sh)
   where
-    pub put-by : {a : Around} → Looks sh ws (e .home) a → putIn sh ws e ≡ putBy sh ws e a
+    pub put-barred : guardsVoid sh ws ≡ false → putIn sh ws e ≡ keeps (refuses 6)
+    unfolding putIn
+    put-barred barred = rw (around-barred sh ws (e .home) barred)
+
+    pub put-unsound : soundAround sh ws (e .home) ≡ false → putIn sh ws e ≡ keeps (refuses 6)
+    unfolding putIn
+    put-unsound s = rw s
+
+    pub put-locked :
+        soundAround sh ws (e .home) ≡ true → lockedAround ws (e .home) ≡ true → putIn sh ws e ≡ keeps (refuses 7)
+    unfolding putIn
+    put-locked s l = rw (s, l)
+
+    pub put-alone : Open sh ws (e .home) → at ws (e .home) .occupied ≡ false → putIn sh ws e ≡ putAlone ws e
     unfolding putIn roomFor holds any
-    put-by (unsound s) = rw s
-    put-by (barred s l) = rw (s, l)
-    put-by (alone s f o) =
-        let none = alone-entries size (home-place i) (alone s f o) in
-        let a = addable range i size s f (ap (holds e) none) in
-        rw (s, f, none, room-alone a o, add-alone a o)
-    put-by (inside s f o) =
-        rw (s, f, cluster-inside _ _ size (home-place i) (inside s f o) .entries, occupied-at ws (e .home), o)
+    put-alone o empty =
+        let none = alone-entries sh ws (e .home) (open-guards o) size (home-place i) empty in
+        let a = addable range i size o (ap (holds e) none) in
+        rw (o .sound, o .free, none, room-alone a empty, add-alone a empty)
+
+    pub put-empty :
+        guardsVoid sh ws ≡ true → at ws (e .home) .occupied ≡ false → putIn sh ws e ≡ putEmpty ws e
+    put-empty void empty = go (isVoid (at ws (e .home))) (at ws (e .home) .lock) refl refl
+      where
+        sound-is : soundAround sh ws (e .home) ≡ isVoid (at ws (e .home))
+        sound-is = alone-sound sh ws (e .home) void size (home-place i) empty
+
+        locked-is : lockedAround ws (e .home) ≡ at ws (e .home) .lock
+        locked-is = alone-locked sh ws (e .home) void size (home-place i) empty
+
+        go :
+            (v l : Bool) → isVoid (at ws (e .home)) ≡ v → at ws (e .home) .lock ≡ l →
+            putIn sh ws e ≡ cond v (cond l (keeps (refuses 7)) (putAlone ws e)) (keeps (refuses 6))
+        go false l x y = put-unsound (sound-is ∙ x)
+        go true true x y = put-locked (sound-is ∙ x) (locked-is ∙ y)
+        go true false x y = put-alone (record { sound = sound-is ∙ x; free = locked-is ∙ y }) empty
+
+    pub put-inside :
+        Open sh ws (e .home) → at ws (e .home) .occupied ≡ true →
+        putIn sh ws e ≡ putAmong sh ws e (clusterEntries ws (e .home))
+    unfolding putIn roomFor
+    put-inside o full = rw (o .sound, o .free, occupied-at ws (e .home), full)
 
 -- ---- beside the cluster
 
--- the key is absent from the cluster between its two ends, and the read says where it would stand
-pub record Ready (sh : Shape) (ws : List Word) (e : Entry) (l r : Place) (read : Read) : Type 0 where
+-- the key is absent from the cluster after the gap l, and the read says where it would stand
+pub record Ready (sh : Shape) (ws : List Word) (e : Entry) (l : Place) (read : Read) : Type 0 where
   pub addable : Addable sh ws e
   pub full : at ws (e .home) .occupied ≡ true
   pub left : l .0 ≡ leftGap (occupied ws) (e .home)
-  pub right : r .0 ≡ rightGap (occupied ws) (e .home)
-  pub inside : Inside sh ws (e .home) l r
+  pub inside : Inside sh ws (e .home)
   pub read-is : read ≡ readOf e (clusterEntries ws (e .home))
 
 deal-length : (hs : List ℕ) (ws : List Word) → length (deal hs ws) ≡ length ws
@@ -122,20 +160,24 @@ deal-length hs (w ∷ ws) = ap suc (deal-length _ ws)
 abbrev pub broughtTo : List Word → Entry → Read → ℕ → ℕ → List Word
 broughtTo ws e read hand goal = finish (fillAt (e .remainder) ws hand) hand goal (read .mark) (e .home)
 
-module _ {sh : Shape} {ws : List Word} {e : Entry} {l r : Place} {read : Read} (g : Ready sh ws e l r read) where
+module _ {sh : Shape} {ws : List Word} {e : Entry} {l : Place} {read : Read} (g : Ready sh ws e l read) where
   -- no more keys are smaller than there are
-  pub reach : (suc (l .0) + read .smaller ≤ r .0) × (r .0 < places sh)
-  unfolding readOf smaller entriesBetween
+  pub reach :
+      (suc (l .0) + read .smaller ≤ rightGap (occupied ws) (e .home)) × (rightGap (occupied ws) (e .home) < places sh)
+  unfolding readOf smaller clusterEntries entriesBetween
   reach =
-      let es = entriesBetween ws (l .0) (r .0) in
+      let left = leftGap (occupied ws) (e .home) in
+      let right = rightGap (occupied ws) (e .home) in
       omega (
         arith,
-        g .inside .ordered,
+        g .left,
+        g .inside .after,
+        g .inside .before,
         g .inside .low,
-        ap (λ (a : Read). a .smaller) (g .read-is ∙ ap (readOf e) (g .inside .entries)),
-        count-few (λ (f : Entry). precedes f e) es,
-        deal-length (virginPlaces (suc (l .0)) (between ws (l .0) (r .0))) (between ws (l .0) (r .0)),
-        length-slice (suc (l .0)) (r .0) ws (omega (arith, g .addable .size, g .inside .low)),
+        ap (λ (a : Read). a .smaller) (g .read-is),
+        count-few (λ (f : Entry). precedes f e) (clusterEntries ws (e .home)),
+        deal-length (virginPlaces (suc left) (between ws left right)) (between ws left right),
+        length-slice (suc left) right ws (omega (arith, g .addable .size, g .inside .low)),
       )
 
   -- the theory's law, with the hand at a gap and the enlarged cluster's first place
@@ -157,31 +199,37 @@ module _ {sh : Shape} {ws : List Word} {e : Entry} {l r : Place} {read : Read} (
       rw (← g .left, ne-eqb (l .0) 0 far, g .read-is)
       (ap (writes (says 2)) (moved gaps.left (l .0) (l .0) (g .left) (omega (arith, g .left))))
 
-  pub added-right :
-      l .0 ≡ 0 → (r .0 ≡ rightGuard sh → ⊥) →
-      addBeside sh ws e ≡ writes (says 2) (broughtTo ws e read (r .0) (1 + read .smaller))
-  unfolding roomBeside enlargedFrom readOf
-  added-right near far =
-      rw (← g .left, ← g .right, eq-eqb (l .0) 0 near, ne-eqb (r .0) (rightGuard sh) far, g .read-is)
-      (ap (writes (says 2)) (moved gaps.right (r .0) 1 (g .right) (omega (arith, g .left, g .inside .ordered))))
+  module _ (r : Place) (right : r .0 ≡ rightGap (occupied ws) (e .home)) where
+    pub added-right :
+        l .0 ≡ 0 → (r .0 ≡ rightGuard sh → ⊥) →
+        addBeside sh ws e ≡ writes (says 2) (broughtTo ws e read (r .0) (1 + read .smaller))
+    unfolding roomBeside enlargedFrom readOf
+    added-right near far =
+        rw (← g .left, ← right, eq-eqb (l .0) 0 near, ne-eqb (r .0) (rightGuard sh) far, g .read-is)
+        (ap
+        (writes (says 2))
+        (moved gaps.right (r .0) 1 right (omega (arith, right, g .left, g .inside .after, g .inside .before))))
 
-  pub added-none : l .0 ≡ 0 → r .0 ≡ rightGuard sh → addBeside sh ws e ≡ keeps (refuses 8)
-  unfolding roomBeside
-  added-none near far = rw (← g .left, ← g .right, eq-eqb (l .0) 0 near, eq-eqb (r .0) (rightGuard sh) far)
+    pub added-none : l .0 ≡ 0 → r .0 ≡ rightGuard sh → addBeside sh ws e ≡ keeps (refuses 8)
+    unfolding roomBeside
+    added-none near far = rw (← g .left, ← right, eq-eqb (l .0) 0 near, eq-eqb (r .0) (rightGuard sh) far)
 
 -- a read of the cluster that does not find the key makes it ready
 pub ready :
-    {sh : Shape} {ws : List Word} {e : Entry} {l r : Place} {read : Read} →
-    InRange sh → InShape sh e → length ws ≡ places sh → Looks sh ws (e .home) (Cluster l r) →
-    read ≡ readOf e (entriesBetween ws (l .0) (r .0)) → read .held ≡ false → Ready sh ws e l r read
-unfolding readOf
-ready {e = e} range i size (inside s f o) is new =
-    let here = cluster-inside _ _ size (home-place i) (inside s f o) in
+    (sh : Shape) (bs : List ℕ) (e : Entry) {l : End} {read : Read} →
+    InRange sh → InShape sh e → length bs ≡ 2 * places sh → Open sh (wordsOf bs) (e .home) →
+    at (wordsOf bs) (e .home) .occupied ≡ true → l ≡ leftEnd (wordsOf bs) (e .home) →
+    read ≡ readFrom bs (leftGap (occupied (wordsOf bs)) (e .home)) e → read .held ≡ false →
+    Ready sh (wordsOf bs) e (l .gap) read
+unfolding readOf leftEnd
+ready sh bs e range i even o full end is new =
+    let size = words-length bs (places sh) even in
+    let here = cluster-inside size (home-place i) full o in
+    let reads = is ∙ read-cluster bs e range even here in
     record {
-      addable = addable range i size s f (ap (holds e) (here .entries) ∙ sym (ap (λ (a : Read). a .held) is) ∙ new);
-      full = o;
-      left = refl;
-      right = refl;
+      addable = addable range i size o (sym (ap (λ (a : Read). a .held) reads) ∙ new);
+      full = full;
+      left = ap (λ (a : End). a .gap .0) end;
       inside = here;
-      read-is = is ∙ sym (ap (readOf e) (here .entries));
+      read-is = reads;
     }

@@ -28,15 +28,13 @@ fn good_keys(sh: Shape, keys: &[u32]) -> bool
     requires { ⌜ InRange sh ⌝ }
     ensures { λ b. ⌜ b ≡ all (λ (key : ℕ). ltb key (keys-of sh)) (now (keys .entry)) ⌝ }
 {
+    let mut good = true;
     let mut i = 0;
     while i < keys.len() {
-        if good_key(sh, keys[i]) {
-            i += 1;
-        } else {
-            return false;
-        }
+        good = good & good_key(sh, keys[i]);
+        i += 1;
     }
-    true
+    good
 }
 
 // Whether there was room for the key.

@@ -1,39 +1,65 @@
 // Find (01, Answers and their numbers).
-use crate::around::Around;
-use crate::around::look_around;
-use cluster::read::read_between;
+use cluster::gaps::End;
+use cluster::gaps::left_end;
+use cluster::gaps::right_end;
+use cluster::guards::guards_void;
+use cluster::read::group_start;
+use cluster::read::read_from;
+use cluster::run::check_run;
 use rules::FindAnswer;
 use rules::Refusal;
 use rules::Shape;
+use words::bytes::word_at;
 use words::key::good_key;
 use words::key::home_place;
 use words::key::remainder_of;
 use words::place::Place;
 use words::shape::good_table;
 use words::shape::shape_of;
+use words::word::is_void;
+use words::word::lock;
+use words::word::occupied;
 ghost use mathlib.Core.Path.{_≡_};
-ghost use Prim.Native.Nat.{_*_, _≤_, _<_};
+ghost use mathlib.Core.Bool.{true};
+ghost use Prim.Native.Nat.{_*_, _<_};
 ghost use lib.ListN.{length};
 ghost use Rattle.rules.specs.Lists.{bitOf};
+ghost use Rattle.rules.specs.Word.{wordOf};
 ghost use Rattle.rules.specs.Bytes.{wordsOf};
 ghost use Rattle.rules.specs.Shape.{keys, places};
 ghost use Rattle.rules.specs.Entry.{split};
-ghost use Rattle.rules.specs.Table.{between, entriesBetween};
-ghost use Rattle.rules.specs.Lay.{holds};
+ghost use Rattle.rules.specs.Table.{at, guardsVoid};
 ghost use Rattle.rules.specs.Answer.{says, findSays};
 ghost use Rattle.rules.specs.Find.{findIn, find as spec-find};
 ghost use Rattle.words.specs.Range.{InRange};
 ghost use Rattle.words.specs.Split.{InShape};
-ghost use Rattle.cluster.specs.Homes.{Housed};
 ghost use Rattle.cluster.specs.Read.{entry};
+ghost use Rattle.cluster.specs.Beside.{Beside, readFrom};
+ghost use Rattle.table.specs.Finding.{aloneSays};
 
-fn find_between(table: &[u8], l: Place, r: Place, home: Place, x: u16) -> FindAnswer
-    requires { ⌜ l .0 < r .0 ⌝ ∗ ⌜ 2 * r .0 ≤ length (now table) ⌝ }
-    requires { ⌜ Housed (between (wordsOf (now table)) (l .0) (r .0)) ⌝ }
-    ensures { λ a. ⌜ findSays a
-        ≡ says (bitOf (holds (entry (home .0) x) (entriesBetween (wordsOf (now (table .entry))) (l .0) (r .0)))) ⌝ }
+// At an empty home, by its word.
+fn find_alone(w: u16) -> FindAnswer
+    ensures { λ a. ⌜ findSays a ≡ aloneSays (wordOf w) ⌝ }
 {
-    let read = read_between(table, l, r, home, x);
+    if is_void(w) {
+        if lock(w) {
+            FindAnswer::Refused(Refusal::Locked)
+        } else {
+            FindAnswer::Absent
+        }
+    } else {
+        FindAnswer::Refused(Refusal::Unsound)
+    }
+}
+
+// In a cluster that may be read from its left end.
+fn find_beside(table: &[u8], l: End, home: Place, x: u16) -> FindAnswer
+    requires { ⌜ Beside (now table) l (home .0) ⌝ }
+    ensures { λ a. ⌜ findSays a
+        ≡ says (bitOf (readFrom (now (table .entry)) (l .gap .0) (entry (home .0) x) .held)) ⌝ }
+{
+    let p = group_start(table, l, home);
+    let read = read_from(table, l.gap, p, home, x);
     if read.held {
         FindAnswer::Present
     } else {
@@ -41,15 +67,40 @@ fn find_between(table: &[u8], l: Place, r: Place, home: Place, x: u16) -> FindAn
     }
 }
 
+// In the cluster of an occupied home: soundness, then the locks, then the key.
+fn find_cluster(sh: Shape, table: &[u8], home: Place, x: u16) -> FindAnswer
+    requires { ⌜ InRange sh ⌝ ∗ ⌜ length (now table) ≡ 2 * places sh ⌝ ∗ ⌜ InShape sh (entry (home .0) x) ⌝ }
+    requires { ⌜ guardsVoid sh (wordsOf (now table)) ≡ true ⌝ }
+    requires { ⌜ at (wordsOf (now table)) (home .0) .occupied ≡ true ⌝ }
+    ensures { λ a. ⌜ findSays a ≡ findIn sh (wordsOf (now (table .entry))) (entry (home .0) x) ⌝ }
+{
+    let l = left_end(table, home);
+    let r = right_end(table, home, l);
+    let run = check_run(sh, table, l.gap, r);
+    if run.sound {
+        if run.locked {
+            FindAnswer::Refused(Refusal::Locked)
+        } else {
+            find_beside(table, l, home, x)
+        }
+    } else {
+        FindAnswer::Refused(Refusal::Unsound)
+    }
+}
+
 fn find_at(sh: Shape, table: &[u8], home: Place, x: u16) -> FindAnswer
     requires { ⌜ InRange sh ⌝ ∗ ⌜ length (now table) ≡ 2 * places sh ⌝ ∗ ⌜ InShape sh (entry (home .0) x) ⌝ }
     ensures { λ a. ⌜ findSays a ≡ findIn sh (wordsOf (now (table .entry))) (entry (home .0) x) ⌝ }
 {
-    let around = look_around(sh, table, home);
-    match around {
-        Around::Refused(n) => FindAnswer::Refused(n),
-        Around::Empty => FindAnswer::Absent,
-        Around::Cluster(l, r) => find_between(table, l, r, home, x),
+    if guards_void(sh, table) {
+        let w = word_at(table, home);
+        if occupied(w) {
+            find_cluster(sh, table, home, x)
+        } else {
+            find_alone(w)
+        }
+    } else {
+        FindAnswer::Refused(Refusal::Unsound)
     }
 }
 

@@ -1,10 +1,13 @@
 // Put (01, Answers and their numbers; Where a new key goes).
-use crate::around::Around;
-use crate::around::look_around;
-use cluster::gaps::left_gap;
+use cluster::gaps::End;
+use cluster::gaps::left_end;
+use cluster::gaps::right_end;
 use cluster::gaps::right_gap;
+use cluster::guards::guards_void;
 use cluster::read::Read;
-use cluster::read::read_between;
+use cluster::read::group_start;
+use cluster::read::read_from;
+use cluster::run::check_run;
 use motion::hand::carry;
 use motion::hand::fill_at;
 use motion::marks;
@@ -21,14 +24,17 @@ use words::shape::good_table;
 use words::shape::right_guard;
 use words::shape::shape_of;
 use words::word::alone_word;
+use words::word::is_void;
+use words::word::lock;
 use words::word::occupied;
 ghost use mathlib.Core.Path.{_≡_};
+ghost use mathlib.Core.Bool.{true};
 ghost use Prim.Native.Nat.{_+_, _*_, _<_};
 ghost use lib.ListN.{length, set};
 ghost use Rattle.rules.specs.Bytes.{wordsOf};
 ghost use Rattle.rules.specs.Shape.{keys, places};
 ghost use Rattle.rules.specs.Entry.{split};
-ghost use Rattle.rules.specs.Table.{entriesBetween};
+ghost use Rattle.rules.specs.Table.{at, guardsVoid};
 ghost use Rattle.rules.specs.Phase.{aloneWord};
 ghost use Rattle.rules.specs.Answer.{says, leaves, putSays};
 ghost use Rattle.rules.specs.Put.{putIn, put as spec-put};
@@ -36,10 +42,10 @@ ghost use Rattle.words.specs.Range.{InRange};
 ghost use Rattle.words.specs.Split.{InShape};
 ghost use Rattle.theory.specs.Motion.{fillAt, finish};
 ghost use Rattle.cluster.specs.Read.{entry};
-ghost use Rattle.table.specs.declared.around.Around.the-variants.{Cluster};
-ghost use Rattle.table.specs.Around.{Looks};
+ghost use Rattle.cluster.specs.Ends.{leftEnd};
+ghost use Rattle.table.specs.Around.{Open};
 ghost use Rattle.table.specs.Filling.{Clean};
-ghost use Rattle.table.specs.Putting.{wordsLeft, addBeside, putAmong, Ready};
+ghost use Rattle.table.specs.Putting.{wordsLeft, addBeside, putEmpty, Ready};
 
 // An empty home gets the key's one word.
 fn put_alone(table: &mut [u8], home: Place, x: u16) -> PutAnswer
@@ -71,24 +77,17 @@ fn bring(table: &mut [u8], hand: Place, goal: Place, mark: u8, home: Place, x: u
 
 // The first empty place to the left is filled; if that is the left guard, the one to the right; if that is a guard
 // too, the table is full.
-fn add_beside(
-    sh: Shape,
-    table: &mut [u8],
-    l: Place,
-    r: Place,
-    home: Place,
-    x: u16,
-    read: Read,
-) -> PutAnswer
+fn add_beside(sh: Shape, table: &mut [u8], l: Place, home: Place, x: u16, read: Read) -> PutAnswer
     requires { ⌜ InRange sh ⌝
         ∗ ⌜ length (now table) ≡ 2 * places sh ⌝
-        ∗ ⌜ Ready sh (wordsOf (now table)) (entry (home .0) x) l r read ⌝ }
+        ∗ ⌜ Ready sh (wordsOf (now table)) (entry (home .0) x) l read ⌝ }
     ensures { λ a. ⌜ leaves (putSays a) (wordsOf (now (table .exit)))
         ≡ wordsLeft
         (wordsOf (now (table .entry)))
         (addBeside sh (wordsOf (now (table .entry))) (entry (home .0) x)) ⌝ }
 {
     if l.0 == 0 {
+        let r = right_gap(table, home);
         if r.0 == right_guard(sh).0 {
             return PutAnswer::Refused(Refusal::Full);
         } else {
@@ -101,24 +100,63 @@ fn add_beside(
     }
 }
 
-// The key is found between the two ends of its cluster, or added beside them.
-fn put_between(sh: Shape, table: &mut [u8], l: Place, r: Place, home: Place, x: u16) -> PutAnswer
+// The key is found in the cluster of its home, or added beside it.
+fn put_beside(sh: Shape, table: &mut [u8], l: End, home: Place, x: u16) -> PutAnswer
     requires { ⌜ InRange sh ⌝ ∗ ⌜ length (now table) ≡ 2 * places sh ⌝ ∗ ⌜ InShape sh (entry (home .0) x) ⌝ }
-    requires { ⌜ Looks sh (wordsOf (now table)) (home .0) (Cluster l r) ⌝ }
+    requires { ⌜ Open sh (wordsOf (now table)) (home .0) ⌝
+        ∗ ⌜ at (wordsOf (now table)) (home .0) .occupied ≡ true ⌝
+        ∗ ⌜ l ≡ leftEnd (wordsOf (now table)) (home .0) ⌝ }
     ensures { λ a. ⌜ leaves (putSays a) (wordsOf (now (table .exit)))
-        ≡ wordsLeft
-        (wordsOf (now (table .entry)))
-        (putAmong
-        sh
-        (wordsOf (now (table .entry)))
-        (entry (home .0) x)
-        (entriesBetween (wordsOf (now (table .entry))) (l .0) (r .0))) ⌝ }
+        ≡ wordsLeft (wordsOf (now (table .entry))) (putIn sh (wordsOf (now (table .entry))) (entry (home .0) x)) ⌝ }
 {
-    let read = read_between(table, l, r, home, x);
+    let p = group_start(table, l, home);
+    let read = read_from(table, l.gap, p, home, x);
     if read.held {
         return PutAnswer::Found;
     } else {
-        return add_beside(sh, table, l, r, home, x, read);
+        return add_beside(sh, table, l.gap, home, x, read);
+    }
+}
+
+// The home is empty: its word decides.
+fn put_empty(table: &mut [u8], home: Place, x: u16) -> PutAnswer
+    requires { ⌜ 2 * home .0 + 1 < length (now table) ⌝ ∗ ⌜ x < 4096 ⌝ }
+    ensures { λ a. ⌜ leaves (putSays a) (wordsOf (now (table .exit)))
+        ≡ wordsLeft
+        (wordsOf (now (table .entry)))
+        (putEmpty (wordsOf (now (table .entry))) (entry (home .0) x)) ⌝ }
+{
+    let w = word_at(table, home);
+    if is_void(w) {
+        if lock(w) {
+            return PutAnswer::Refused(Refusal::Locked);
+        } else {
+            return put_alone(table, home, x);
+        }
+    } else {
+        return PutAnswer::Refused(Refusal::Unsound);
+    }
+}
+
+// The home is occupied: soundness of its cluster, then the locks, then the key.
+fn put_cluster(sh: Shape, table: &mut [u8], home: Place, x: u16) -> PutAnswer
+    requires { ⌜ InRange sh ⌝ ∗ ⌜ length (now table) ≡ 2 * places sh ⌝ ∗ ⌜ InShape sh (entry (home .0) x) ⌝ }
+    requires { ⌜ guardsVoid sh (wordsOf (now table)) ≡ true ⌝ }
+    requires { ⌜ at (wordsOf (now table)) (home .0) .occupied ≡ true ⌝ }
+    ensures { λ a. ⌜ leaves (putSays a) (wordsOf (now (table .exit)))
+        ≡ wordsLeft (wordsOf (now (table .entry))) (putIn sh (wordsOf (now (table .entry))) (entry (home .0) x)) ⌝ }
+{
+    let l = left_end(table, home);
+    let r = right_end(table, home, l);
+    let run = check_run(sh, table, l.gap, r);
+    if run.sound {
+        if run.locked {
+            return PutAnswer::Refused(Refusal::Locked);
+        } else {
+            return put_beside(sh, table, l, home, x);
+        }
+    } else {
+        return PutAnswer::Refused(Refusal::Unsound);
     }
 }
 
@@ -127,17 +165,15 @@ fn put_at(sh: Shape, table: &mut [u8], home: Place, x: u16) -> PutAnswer
     ensures { λ a. ⌜ leaves (putSays a) (wordsOf (now (table .exit)))
         ≡ wordsLeft (wordsOf (now (table .entry))) (putIn sh (wordsOf (now (table .entry))) (entry (home .0) x)) ⌝ }
 {
-    let around = look_around(sh, table, home);
-    match around {
-        Around::Refused(n) => {
-            return PutAnswer::Refused(n);
+    if guards_void(sh, table) {
+        let w = word_at(table, home);
+        if occupied(w) {
+            return put_cluster(sh, table, home, x);
+        } else {
+            return put_empty(table, home, x);
         }
-        Around::Empty => {
-            return put_alone(table, home, x);
-        }
-        Around::Cluster(l, r) => {
-            return put_between(sh, table, l, r, home, x);
-        }
+    } else {
+        return PutAnswer::Refused(Refusal::Unsound);
     }
 }
 
@@ -158,9 +194,8 @@ fn put_clean_at(sh: Shape, table: &mut [u8], home: Place, x: u16) -> PutAnswer
 {
     let w = word_at(table, home);
     if occupied(w) {
-        let l = left_gap(table, home);
-        let r = right_gap(table, home);
-        return put_between(sh, table, l, r, home, x);
+        let l = left_end(table, home);
+        return put_beside(sh, table, l, home, x);
     } else {
         return put_alone(table, home, x);
     }

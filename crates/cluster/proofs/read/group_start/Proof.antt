@@ -2,7 +2,7 @@
 -- Assumes nothing.
 use mathlib.Core.Path.{_∙_}
 use borrow.Author.Needs.{needs}
-use Rattle.cluster.specs.Beside.{right-few, start-right, left-few, start-left}
+use Rattle.cluster.specs.Beside.{right-few, start-right, left-few, start-left, start-is}
 use Rattle.cluster.proofs.read.group_start.Statement.{statement}
 use Rattle.cluster.proofs.read.group_start.Tie as tie
 
@@ -15,7 +15,8 @@ pass-groups-requires c κs = right-few (c .before .before .before .before .pre) 
 returns : tie.Need-returns
 returns c =
     let asked = c .before .before in
-    c .pass-groups .ensures ∙ start-right (asked .before .before .before .pre) (asked .if1 .taken)
+    let b = asked .before .before .before .pre in
+    c .pass-groups .ensures ∙ start-right b (asked .if1 .taken) ∙ start-is b
 
 pass-back-requires : tie.Need-pass-back-requires
 pass-back-requires c κs = search (needs, left-few)
@@ -23,7 +24,8 @@ pass-back-requires c κs = search (needs, left-few)
 returns-2 : tie.Need-returns-2
 returns-2 c =
     let asked = c .before .before in
-    c .pass-back .ensures ∙ start-left (asked .before .before .before .pre) (asked .if1 .left)
+    let b = asked .before .before .before .pre in
+    c .pass-back .ensures ∙ start-left b (asked .if1 .left) ∙ start-is b
 
 pub group-start-spec : {M : Type 1} → statement M
 group-start-spec =

@@ -9,7 +9,7 @@ use lib.Seq.{slice}
 use Rattle.rules.specs.Lists.{bitOf, count}
 use Rattle.rules.specs.Bytes.{wordsOf}
 use Rattle.theory.specs.Dealt.{isChange}
-use Rattle.cluster.specs.Beside.{allBut, back-fewer, back-on, back-stop, back-end}
+use Rattle.cluster.specs.Beside.{allBut, back-on, back-stop, back-end}
 use Rattle.cluster.proofs.read.pass_back.Statement.{statement}
 use Rattle.cluster.proofs.read.pass_back.Tie as tie
 
@@ -39,20 +39,17 @@ word-at-requires c κs = omega arith
 change-requires : tie.Need-change-requires Inv-loop μ-loop
 change-requires c κs = search needs
 
-bit-of-requires : tie.Need-bit-of-requires Inv-loop μ-loop
-bit-of-requires c κs = search needs
-
-add-t12 : tie.Need-add-t12 Inv-loop μ-loop
-add-t12 c = omega arith
+add-t13 : tie.Need-add-t13 Inv-loop μ-loop
+add-t13 c = omega arith
 
 returns : tie.Need-returns Inv-loop μ-loop
 returns c =
-    let read = c .before .before .before in
+    let tested = c .before .before in
+    let read = tested .before in
     let head = read .before .before in
     let start = head .before .before .before in
     let bs = now (start .args .table) in
     let last : start .args .home .0 - 1 + 1 ≡ start .args .home .0 = omega (arith, start .pre .0) in
-    let bit = c .before .bit-of .ensures .0 ∙ ap bitOf (c .before .before .change .ensures) in
     back-stop
     bs
     (start .args .l .0 + 1)
@@ -60,12 +57,15 @@ returns c =
     (omega arith)
     (omega arith)
     (read .word-at .result)
-    (c .before .bit-of .result)
+    1
     (head .loop .left)
     (read .word-at .ensures)
-    bit
-    (c .if1 .taken)
+    (sym (ap bitOf (sym (tested .change .ensures) ∙ c .before .if1 .taken)))
+    (omega (arith, c .if2 .taken))
     ∙ ap (λ (n : ℕ). start .args .l .0 + 1 + n) (rw last at (head .loop .inv .3))
+
+sub-left : tie.Need-sub-left Inv-loop μ-loop
+sub-left c = omega arith
 
 sub-i-2 : tie.Need-sub-i-2 Inv-loop μ-loop
 sub-i-2 c = omega arith
@@ -73,49 +73,66 @@ sub-i-2 c = omega arith
 loop-less : tie.Need-loop-less Inv-loop μ-loop
 loop-less c = omega arith
 
+-- a group is passed over, or a word within one
 loop-again : tie.Need-loop-again Inv-loop μ-loop
 loop-again c =
-    let read = c .before .before .before in
+    let tested = c .before .before in
+    let read = tested .before in
     let head = read .before .before in
     let start = head .before .before .before in
     let bs = now (start .args .table) in
     let here : head .loop .i - 1 + 1 ≡ head .loop .i = omega arith in
-    let bit = c .before .bit-of .ensures .0 ∙ ap bitOf (c .before .before .change .ensures) in (
-      omega arith,
-      omega arith,
-      rw here
-          (back-fewer
-          bs
-          (start .args .l .0 + 1)
-          (head .loop .i)
-          (omega arith)
-          (omega arith)
-          (read .word-at .result)
-          (c .before .bit-of .result)
-          (head .loop .left)
-          (read .word-at .ensures)
-          bit
-          (c .if1 .left)
-          (head .loop .inv .2)),
-      rw here
-          (back-on
-          bs
-          (start .args .l .0 + 1)
-          (head .loop .i)
-          (omega arith)
-          (omega arith)
-          (read .word-at .result)
-          (c .before .bit-of .result)
-          (head .loop .left)
-          (read .word-at .ensures)
-          bit
-          (c .if1 .left)
-          (head .loop .inv .2))
-          ∙ head .loop .inv .3,
-    )
+    let bit = sym (ap bitOf (sym (tested .change .ensures) ∙ c .before .if1 .taken)) in
+    let on =
+        back-on
+        bs
+        (start .args .l .0 + 1)
+        (head .loop .i)
+        (omega arith)
+        (omega arith)
+        (read .word-at .result)
+        1
+        (head .loop .left)
+        (read .word-at .ensures)
+        bit
+        (omega arith)
+        (head .loop .inv .2) in
+    (omega arith, omega arith, rw here (on .0), rw here (on .1) ∙ head .loop .inv .3)
 
-add-t13 : tie.Need-add-t13 Inv-loop μ-loop
-add-t13 c = omega arith
+sub-i-3 : tie.Need-sub-i-3 Inv-loop μ-loop
+sub-i-3 c = omega arith
+
+loop-less-2 : tie.Need-loop-less-2 Inv-loop μ-loop
+loop-less-2 c = omega arith
+
+loop-again-2 : tie.Need-loop-again-2 Inv-loop μ-loop
+loop-again-2 c =
+    let tested = c .before in
+    let read = tested .before in
+    let head = read .before .before in
+    let start = head .before .before .before in
+    let bs = now (start .args .table) in
+    let here : head .loop .i - 1 + 1 ≡ head .loop .i = omega arith in
+    let all : head .loop .left - 0 ≡ head .loop .left = omega arith in
+    let bit = sym (ap bitOf (sym (tested .change .ensures) ∙ c .if1 .left)) in
+    let on =
+        back-on
+        bs
+        (start .args .l .0 + 1)
+        (head .loop .i)
+        (omega arith)
+        (omega arith)
+        (read .word-at .result)
+        0
+        (head .loop .left)
+        (read .word-at .ensures)
+        bit
+        (omega arith)
+        (head .loop .inv .2) in
+    (omega arith, omega arith, rw here (rw all at (on .0)), rw here (rw all at (on .1)) ∙ head .loop .inv .3)
+
+add-t14 : tie.Need-add-t14 Inv-loop μ-loop
+add-t14 c = omega arith
 
 returns-2 : tie.Need-returns-2 Inv-loop μ-loop
 returns-2 c =
@@ -137,11 +154,14 @@ pass-back-spec =
     loop-holds
     word-at-requires
     change-requires
-    bit-of-requires
-    add-t12
+    add-t13
     returns
+    sub-left
     sub-i-2
     loop-less
     loop-again
-    add-t13
+    sub-i-3
+    loop-less-2
+    loop-again-2
+    add-t14
     returns-2)

@@ -3,8 +3,10 @@
 -- Assumes nothing.
 use Prim.Native.Nat.{ℕ, _+_, _-_, _≤_}
 use mathlib.Core.Path.{_≡_, refl, sym, _∙_, ap}
+use mathlib.Core.Bool.{true, false}
 use borrow.Author.Needs.{needs}
 use borrow.Author.Tests.{not-true, not-false}
+use native.Mathlib.Nat.{zero-add}
 use native.Mathlib.Omega.{arith}
 use denote.Ref.{now}
 use Rattle.rules.specs.Lists.{bitOf, count}
@@ -19,7 +21,7 @@ use Rattle.cluster.proofs.read.read_group.Statement.{statement}
 use Rattle.cluster.proofs.read.read_group.Tie as tie
 
 abbrev Inv-loop : tie.InvT-loop
-Inv-loop table x seen₀ i₀ w₀ seen i w =
+Inv-loop table x before seen₀ i₀ w₀ seen i w =
     (seen .smaller ≤ i)
     × (1 ≤ count isChange (wordsFrom table i))
     × (wordOf w ≡ at (wordsOf table) i)
@@ -27,7 +29,7 @@ Inv-loop table x seen₀ i₀ w₀ seen i w =
     groupRead (entry home x) seen (wordsFrom table i) ≡ groupRead (entry home x) seen₀ (wordsFrom table i₀))
 
 abbrev μ-loop : tie.MeasureT-loop
-μ-loop table x seen₀ i₀ w₀ seen i w = placesOf table - i
+μ-loop table x before seen₀ i₀ w₀ seen i w = placesOf table - i
 
 word-at-requires : tie.Need-word-at-requires Inv-loop μ-loop
 word-at-requires c κs =
@@ -128,7 +130,7 @@ returns c =
     let head = tested .before .before in
     let start = head .before .before .before in
     let bs = now (start .args .table) in
-    let home = start .args .home .0 in
+    λ (home : ℕ).
     c .read-of .ensures
     ∙ rw (looked .look2 .ensures home)
     (group-ends
@@ -145,6 +147,13 @@ returns c =
     (looked .before .remainder2 .ensures)
     (sym (tested .before .change .ensures) ∙ not-false _ (tested .if1 .left)))
     ∙ head .loop .inv .3 home
+    ∙ ap
+    (λ (k : ℕ).
+    groupRead
+    (entry home (start .args .x))
+    (record { held = false; smaller = k; grouped = false; largest = true })
+    (wordsFrom bs (start .args .p .0)))
+    (sym (zero-add (start .args .before)))
 
 pub read-group-spec : {M : Type 1} → statement M
 read-group-spec =

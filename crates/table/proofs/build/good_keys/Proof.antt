@@ -1,77 +1,46 @@
--- `good_keys` meets its contract. The invariant: the keys to come are all in range if all are.
--- Assumes nothing.
-use Prim.Native.Nat.{_-_}
-use mathlib.Core.Path.{_≡_, refl, sym, _∙_}
-use borrow.Author.Needs.{needs}
-use native.Mathlib.Omega.{arith}
-use denote.Ref.{now}
-use lib.ListN.{length, drop}
-use Rattle.rules.specs.Lists.{all}
-use Rattle.words.specs.All.{all-on, all-stops, all-ends}
-use Rattle.table.specs.Building.{good}
 use Rattle.table.proofs.build.good_keys.Statement.{statement}
 use Rattle.table.proofs.build.good_keys.Tie as tie
+use Rattle.table.proofs.build.good_keys.Reads as reads
+use Rattle.table.proofs.build.good_keys.Lts as lts
+use Rattle.words.proofs.key.good_key.Reads as good-key-reads
 
 abbrev Inv-loop : tie.InvT-loop
-Inv-loop sh keys i₀ i =
-    all (good sh) (drop i keys) ≡ all (good sh) keys
+Inv-loop sh keys good₀ i₀ good i = ?
 
 abbrev μ-loop : tie.MeasureT-loop
-μ-loop sh keys i₀ i = length keys - i
+μ-loop sh keys good₀ i₀ good i = ?
 
+-- src/build.rt:33:5
 loop-holds : tie.Need-loop-holds Inv-loop μ-loop
-loop-holds c = refl
+loop-holds c = ?
 
+-- src/build.rt:34:36
 mul-good-key : tie.Need-mul-good-key Inv-loop μ-loop
-mul-good-key c = search needs
+mul-good-key c = ?
 
+-- src/build.rt:34:36
 shared-slice-read-good-key : tie.Need-shared-slice-read-good-key Inv-loop μ-loop
-shared-slice-read-good-key c = omega arith
+shared-slice-read-good-key c = ?
 
+-- src/build.rt:34:23
 good-key-requires : tie.Need-good-key-requires Inv-loop μ-loop
-good-key-requires c κs = search needs
+good-key-requires c κs = ?
 
+-- src/build.rt:35:9
 add-i : tie.Need-add-i Inv-loop μ-loop
-add-i c = omega arith
+add-i c = ?
 
+-- src/build.rt:33:5
 loop-less : tie.Need-loop-less Inv-loop μ-loop
-loop-less c = omega arith
+loop-less c = ?
 
+-- src/build.rt:33:5
 loop-again : tie.Need-loop-again Inv-loop μ-loop
-loop-again c =
-    let turn = c .before .before .before in
-    let head = turn .before in
-    let start = head .before .before in
-    all-on
-    (good (start .args .sh))
-    (now (start .args .keys))
-    (head .loop .i)
-    0
-    (turn .loop-test .taken)
-    (sym (c .before .good-key .ensures) ∙ c .if1 .taken)
-    ∙ head .loop .inv
+loop-again c = ?
 
+-- src/build.rt:27:1
 returns : tie.Need-returns Inv-loop μ-loop
-returns c =
-    let turn = c .before .before .before in
-    let head = turn .before in
-    let start = head .before .before in
-    sym
-    (all-stops
-    (good (start .args .sh))
-    (now (start .args .keys))
-    (head .loop .i)
-    0
-    (turn .loop-test .taken)
-    (sym (c .before .good-key .ensures) ∙ c .if1 .left))
-    ∙ head .loop .inv
-
-returns-2 : tie.Need-returns-2 Inv-loop μ-loop
-returns-2 c =
-    let head = c .before in
-    let start = head .before .before in
-    sym (all-ends (good (start .args .sh)) (now (start .args .keys)) (head .loop .i) 0 (c .loop-test .left))
-    ∙ head .loop .inv
+returns c = ?
 
 pub good-keys-spec : {M : Type 1} → statement M
 good-keys-spec =
@@ -86,5 +55,4 @@ good-keys-spec =
     add-i
     loop-less
     loop-again
-    returns
-    returns-2)
+    returns)

@@ -1,98 +1,70 @@
--- `put_at` meets its contract: what is around the home decides.
--- Assumes nothing.
-use mathlib.Core.Path.{sym, _∙_}
 use borrow.Author.Needs.{needs}
-use native.Mathlib.Omega.{arith}
-use denote.Ref.{now}
-use Rattle.rules.specs.Shape.{places}
-use Rattle.words.specs.Range.{remainders-high}
-use Rattle.words.specs.Layout.{words-length}
-use Rattle.table.specs.Around.{looks}
-use Rattle.table.specs.Key.{home-place}
-use Rattle.table.specs.Putting.{put-by}
 use Rattle.table.proofs.put.put_at.Statement.{statement}
 use Rattle.table.proofs.put.put_at.Tie as tie
+use Rattle.table.proofs.put.put_at.Reads as reads
+use Rattle.table.proofs.put.put_at.Lts as lts
+use Rattle.cluster.proofs.guards.guards_void.Reads as guards-void-reads
+use Rattle.table.proofs.put.put_cluster.Reads as put-cluster-reads
+use Rattle.table.proofs.put.put_empty.Reads as put-empty-reads
+use Rattle.words.proofs.bytes.word_at.Reads as word-at-reads
+use Rattle.words.proofs.word.occupied.Reads as occupied-reads
 
-look-around-requires : tie.Need-look-around-requires
-look-around-requires c κs =
-    let start = c .before .before in
-    (start .pre .0, (start .pre .1 .0, home-place (start .pre .1 .1)))
+-- src/put.rt:168:8
+guards-void-requires : tie.Need-guards-void-requires
+guards-void-requires c κs = search needs
 
-enum-known-around : tie.Need-enum-known-around
-enum-known-around c = search needs
+-- src/put.rt:169:13
+word-at-requires : tie.Need-word-at-requires
+word-at-requires c κs = ?
 
+-- src/put.rt:170:12
+occupied-requires : tie.Need-occupied-requires
+occupied-requires c κs = search needs
+
+-- src/put.rt:171:13
+put-cluster-requires : tie.Need-put-cluster-requires
+put-cluster-requires c κs = ?
+
+-- src/put.rt:171:13
 same-length : tie.Need-same-length
 same-length c = search needs
 
+-- src/put.rt:171:13
 returns : tie.Need-returns
-returns c =
-    let seen = c .before in
-    let look = seen .before .before in
-    let start = look .before .before .before in
-    let size = words-length (now (start .args .table)) (places (start .args .sh)) (start .pre .1 .0) in
-    let a = looks _ _ _ _ (sym (seen .around .given .1) ∙ look .look-around .ensures) in
-    rw (put-by _ (start .pre .0) (start .pre .1 .1) size a)
+returns c = search needs
 
-enum-told : tie.Need-enum-told
-enum-told c = search needs
+-- src/put.rt:173:13
+put-empty-requires : tie.Need-put-empty-requires
+put-empty-requires c κs = ?
 
-put-alone-requires : tie.Need-put-alone-requires
-unfolding places
-put-alone-requires c κs =
-    let start = c .before .before .before .before .before .before in
-    let i = start .pre .1 .1 in
-    omega (arith, i .home-high, i .remainder-low, remainders-high (start .args .sh) (start .pre .0))
-
+-- src/put.rt:173:13
 same-length-2 : tie.Need-same-length-2
 same-length-2 c = search needs
 
+-- src/put.rt:173:13
 returns-2 : tie.Need-returns-2
-returns-2 c =
-    let put = c .before .before in
-    let seen = put .before .before in
-    let look = seen .before .before in
-    let start = look .before .before .before in
-    let size = words-length (now (start .args .table)) (places (start .args .sh)) (start .pre .1 .0) in
-    let a = looks _ _ _ _ (sym (seen .enum-told .given .1) ∙ look .look-around .ensures) in
-    rw (put-by _ (start .pre .0) (start .pre .1 .1) size a) (put .put-alone .ensures)
+returns-2 c = ?
 
-enum-known-around-2 : tie.Need-enum-known-around-2
-enum-known-around-2 c = search needs
-
-put-between-requires : tie.Need-put-between-requires
-put-between-requires c κs =
-    let seen = c .before .before in
-    let look = seen .before .before in
-    let start = look .before .before .before in
-    let a = looks _ _ _ _ (sym (seen .around2 .given .1) ∙ look .look-around .ensures) in
-    (start .pre .0, (start .pre .1 .0, (start .pre .1 .1, a)))
-
+-- src/put.rt:176:9
 same-length-3 : tie.Need-same-length-3
 same-length-3 c = search needs
 
+-- src/put.rt:176:9
 returns-3 : tie.Need-returns-3
-returns-3 c =
-    let put = c .before .before in
-    let seen = put .before .before .before in
-    let look = seen .before .before in
-    let start = look .before .before .before in
-    let size = words-length (now (start .args .table)) (places (start .args .sh)) (start .pre .1 .0) in
-    let a = looks _ _ _ _ (sym (seen .around2 .given .1) ∙ look .look-around .ensures) in
-    rw (put-by _ (start .pre .0) (start .pre .1 .1) size a) (put .put-between .ensures)
+returns-3 c = ?
 
 pub put-at-spec : {M : Type 1} → statement M
 put-at-spec =
     tie.close
     (tie.spec
-    look-around-requires
-    enum-known-around
+    guards-void-requires
+    word-at-requires
+    occupied-requires
+    put-cluster-requires
     same-length
     returns
-    enum-told
-    put-alone-requires
+    put-empty-requires
     same-length-2
     returns-2
-    enum-known-around-2
-    put-between-requires
     same-length-3
     returns-3)
