@@ -24,8 +24,8 @@ use Rattle.words.specs.Split.{InShape, split-in-shape, split-join, join-below}
 use Rattle.words.specs.Layout.{same-bytes, bytes-are}
 use Rattle.theory.specs.Run.{none}
 use Rattle.theory.specs.Dealt.{and-left, and-right, and-both, or-left, or-right}
-use Rattle.theory.specs.Perm as perm
-use Rattle.theory.specs.Perm.{All}
+use Rattle.theory.specs.Every as every
+use Rattle.theory.specs.Every.{All}
 use Rattle.theory.specs.Insert.{Within, ascend-asc, ascend-same, holds-ascend, holds-append, asc-unique, held-all}
 use Rattle.theory.specs.Seen.{Right, right-end, right-more, Table, table}
 use Rattle.theory.specs.Putting.{Puts, found, inserted, overflow}
@@ -84,9 +84,9 @@ split-within sh key lt =
 pub all-within :
     (sh : Shape) (ks : List ℕ) → InKeys sh ks → All (Within (remainders sh) (rightGuard sh) 4096) (entriesOf sh ks)
 unfolding all
-all-within sh [] h = perm.none
+all-within sh [] h = every.none
 all-within sh (k ∷ ks) h =
-    perm.both
+    every.both
     (split-within sh k (ltb-true k (keys sh) (and-left (ltb k (keys sh)) _ h)))
     (all-within sh ks (and-right (ltb k (keys sh)) _ h))
 

@@ -27,10 +27,6 @@ number cs = numberAfter 0 cs
 unfoldable pub glyph : ℕ → ℕ
 glyph d = cond (leb d 9) (48 + d) (55 + d)
 
--- a byte as two digits
-unfoldable pub twoDigits : ℕ → List ℕ
-twoDigits n = glyph (n / 16) ∷ glyph (n % 16) ∷ []
-
 -- numbers of two digits each, no gaps
 unfoldable pub digitsOf : List ℕ → List ℕ
 digitsOf [] = []

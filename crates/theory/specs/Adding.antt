@@ -17,7 +17,7 @@ use Rattle.rules.specs.Table.{occupied, locked}
 use Rattle.rules.specs.Lay.{holds, insert}
 use Rattle.rules.specs.Put.{layRun}
 use Rattle.theory.specs.Run.{Asc, none, Run}
-use Rattle.theory.specs.Perm as perm
+use Rattle.theory.specs.Every as every
 use Rattle.theory.specs.Insert.{asc-weaken, asc-below, insert-asc, insert-length, insert-front, insert-back}
 use Rattle.theory.specs.Joined.{map-append, run-append}
 use Rattle.theory.specs.Seen.{Right, right-end, right-more, Left, left-start, left-more, Table, whole, left-asc}
@@ -118,7 +118,7 @@ pub insert-between :
     Asc d n b xs →
     n ≤ e .home → e .home < m → Asc d c (m * 4096) zs → insert e (xs ++ (ys ++ zs)) ≡ xs ++ (insert e ys ++ zs)
 insert-between n m e {xs} ys {zs} s low up first last down =
-    insert-back e (ys ++ zs) (omega arith) (perm.all-map (λ f lt. omega arith) (asc-below s up))
+    insert-back e (ys ++ zs) (omega arith) (every.all-map (λ f lt. omega arith) (asc-below s up))
     ∙ ap (λ (es : List Entry). xs ++ es) (insert-front e ys s down (omega arith))
 
 -- ---- what adding gives

@@ -326,12 +326,6 @@ module _ {sh : Shape} {us : List Entry} (u : Roomy sh us) where
       holds f us ≡ true → after-put sh (after-put sh ws e) f ≡ after-put sh (after-put sh ws f) e
   put-swap {ws} {es} e f t inside e-in f-in = go (holds e es) (holds f es) (sameEntry e f) refl refl refl
     where
-      pe : Put sh ws es e (after-put sh ws e)
-      pe = put-room e u t inside e-in
-
-      pf : Put sh ws es f (after-put sh ws f)
-      pf = put-room f u t inside f-in
-
       -- one of them is there already
       held :
           (e f : Entry) →

@@ -73,17 +73,6 @@ whole {d} g {v} {ys} (left-more u h run xs zs left hollow r p q) void right =
     plus : (m n : ℕ) → m + suc n ≡ suc m + n
     plus m n = omega arith
 
--- a table seen from a run
-pub whole-run :
-    {d : ℕ} {u : List Word} {xs : List Entry} (g : Word) {run : List Word} {ys : List Entry} (h : Word) {v : List Word}
-    {zs : List Entry} →
-    Left d u xs →
-    isVoid g ≡ true →
-    Run d (suc (length u)) run ys →
-    isVoid h ≡ true →
-    Right d (suc (suc (length u) + length run)) v zs → Table d (u ++ (g ∷ (run ++ (h ∷ v)))) (xs ++ (ys ++ zs))
-whole-run g h left void r hollow right = whole g left void (right-more _ h _ _ _ r hollow right refl refl)
-
 -- ---- the order of the entries
 pub right-asc :
     {d p : ℕ} {ws : List Word} {es : List Entry} → d ≤ 4096 → Right d p ws es → Asc d (p + length ws) (p * 4096) es

@@ -4,18 +4,18 @@
 use Prim.Native.Nat.{ℕ, zero, suc, _+_, _*_, _≤_, _<_}
 use mathlib.Core.Path.{_≡_, refl, sym, ap, ap₂, _∙_, subst}
 use mathlib.Core.Logic.{_⊎_, _≢_, inl, inr}
-use mathlib.Core.Bool.{Bool, true, false, not, cond, _&&_, _||_, true≢false, false≢true}
-use mathlib.Core.List.{List, [], _∷_, _++_, map}
+use mathlib.Core.Bool.{Bool, true, false, cond, _&&_, _||_, true≢false, false≢true}
+use mathlib.Core.List.{List, [], _∷_, _++_}
 use native.Mathlib.Omega.{arith}
 use native.Mathlib.Nat.{zero-add}
 use lib.ListN.{length, getD, set, length-set}
 use lib.Seq.{set-getD}
 use lib.Dec.{eqb, leb, ltb}
-use borrow.Author.Tests.{eqb-true, eqb-false, eq-eqb, ne-eqb, le-leb, leb-true, lt-ltb, ltb-true, ltb-false, le-ltb}
+use borrow.Author.Tests.{eqb-true, eqb-false, eq-eqb, ne-eqb, le-leb, lt-ltb, ltb-true, ltb-false}
 use Rattle.rules.specs.declared.Shape.{Shape}
 use Rattle.rules.specs.declared.Task.{Task}
 use Rattle.rules.specs.Lists.{bitOf, count, all, any}
-use Rattle.rules.specs.Word.{Word, zeroWord}
+use Rattle.rules.specs.Word.{Word}
 use Rattle.rules.specs.Bytes.{wordsOf, bytesOf}
 use Rattle.rules.specs.Shape.{shapeOf, inRange, remainders, keys, places, goodTable, fitsLength}
 use Rattle.rules.specs.Entry.{Entry, split, sameEntry}
@@ -24,37 +24,35 @@ use Rattle.rules.specs.Lay.{holds, insert}
 use Rattle.rules.specs.Build.{puts}
 use Rattle.rules.specs.Answer.{Answer, says, refuses, Leaves, leaves}
 use Rattle.rules.specs.Record.{busy, atRest, fitsBusy, fits}
-use Rattle.rules.specs.Give.{given, noTask, taskAt, goodTask, giveTo, storedAt, give}
-use Rattle.rules.specs.Step.{Lent, Stepped, refused, stepOf, lentAfter, step}
-use Rattle.words.specs.Range.{InRange, good-table, remainders-high}
+use Rattle.rules.specs.Give.{given, noTask, taskAt, goodTask, giveTo, give}
+use Rattle.rules.specs.Step.{Lent, refused, stepOf, lentAfter, step}
+use Rattle.words.specs.Range.{good-table, remainders-high}
 use Rattle.words.specs.Layout.{bytes-length, words-of-bytes, remainders-small}
-use Rattle.theory.specs.Run.{unlock}
-use Rattle.theory.specs.Perm as perm
-use Rattle.theory.specs.Perm.{All}
+use Rattle.theory.specs.Every as every
+use Rattle.theory.specs.Every.{All}
 use Rattle.theory.specs.Insert.{same-eq, holds-insert}
 use Rattle.theory.specs.Dealt.{and-left, and-right, and-both, or-left, or-right}
 use Rattle.theory.specs.Joined.{or-none}
 use Rattle.theory.specs.Keys.{listed}
-use Rattle.theory.specs.Gaps.{HomePlace, AllTaken, full-room}
+use Rattle.theory.specs.Gaps.{AllTaken, full-room}
 use Rattle.theory.specs.Putting.{table-guarded}
 use Rattle.theory.specs.Building.{State, after-put, Roomy, Inside, put-not-full, in-home}
-use Rattle.demands.specs.Terms.{SoundTable, PlainTable, InKeys, entriesOf}
-use Rattle.demands.specs.Lent.{in-range-of, low-of, size-of, state-of, bytes-small}
+use Rattle.demands.specs.Terms.{PlainTable, InKeys, entriesOf}
+use Rattle.demands.specs.Lent.{state-of, bytes-small}
 use Rattle.demands.specs.Proof2.{same-split}
 use Rattle.demands.specs.Proof3.{listed-split}
-use Rattle.together.specs.Invariant.{Owns, by-left, by-right, Reserves, Apart, Unfinished, Inv, Stage, at-rest}
+use Rattle.together.specs.Invariant.{Owns, by-left, by-right, Reserves, Unfinished, Inv, Stage, at-rest}
 use Rattle.together.specs.Invariant.{at-home}
 use Rattle.together.specs.Invariant.{looks-left, looks-right, owns-left, owns-both, has-read, moving, marking}
 use Rattle.together.specs.Invariant.{frees-left, frees-right}
-use Rattle.together.specs.Update.{Steps, inv-update, task-same, task-other, same-or-not}
-use Rattle.together.specs.Facts.{in-order, words-size}
+use Rattle.together.specs.Update.{inv-update, task-same, task-other, same-or-not}
+use Rattle.together.specs.Facts.{words-size}
 use Rattle.together.specs.Fitting.{stage-fits}
 use Rattle.together.specs.Quiet.{still}
 use Rattle.together.specs.Walk.{Walked, Effect, keeps, commits, weight, Answered, says-full, says-shown}
 use Rattle.together.specs.Course.{walk}
 use Rattle.together.specs.Commit.{held-still, plain-unlocked}
 use Rattle.together.specs.Machine.{Action, gives, steps, Said, World, begin, afterGive, afterStep, act, course}
-use Rattle.together.specs.Machine.{quiet}
 use Rattle.together.specs.Machine.{timesGiven, timesSaid, timesInserted}
 use Rattle.together.specs.History.{timesLoaded, timesBusy, heard, tally-step, answers-step, give-tally}
 use Rattle.together.specs.History.{quiet-counts, rest-phase}
@@ -177,11 +175,11 @@ fair-begin {m} {r} {bytes} ts t few rest =
       answers = λ key. omega (arith, quiet-counts key ts rest .1);
       task-given = λ i lt a b. absurd (never i (rest-at ts i lt rest) a b);
       in-keys = refl;
-      meaning = perm.none;
+      meaning = every.none;
       none-full = λ us space.
           record {
             of-busy = λ i lt a b full. never i (rest-at ts i lt rest) a b;
-            of-said = perm.none;
+            of-said = every.none;
           };
     }
   where
@@ -635,7 +633,7 @@ module _ {m r : ℕ} {start : List ℕ} {w : World} (f : Fair m r start w) (i : 
     meaning-after = go (eqb (k .next .phase) 13) refl
       where
         older : All (Means (shapeOf m r) (k .shown-after)) (w .said)
-        older = perm.all-map later (f .meaning)
+        older = every.all-map later (f .meaning)
           where
             later : (s : Said) → Means (shapeOf m r) (f .shown) s → Means (shapeOf m r) (k .shown-after) s
             later s (means-full e) = means-full e
@@ -651,7 +649,7 @@ module _ {m r : ℕ} {start : List ℕ} {w : World} (f : Fair m r start w) (i : 
             (b : Bool) →
             eqb (k .next .phase) 13 ≡ b →
             All (Means (shapeOf m r) (k .shown-after)) (cond b (record { key = k .next .key; answer = k .next .answer } ∷ w .said) (w .said))
-        go true e = perm.both (meant (k .ends (eqb-true (k .next .phase) 13 e))) older
+        go true e = every.both (meant (k .ends (eqb-true (k .next .phase) 13 e))) older
         go false e = older
 
     -- with room for all keys nobody says full
@@ -730,7 +728,7 @@ module _ {m r : ℕ} {start : List ℕ} {w : World} (f : Fair m r start w) (i : 
             (sym (ap (λ (t : Task). t .answer) same) ∙ full)
 
         go : (b : Bool) → All (λ (s : Said). s .answer ≢ 3) (cond b (record { key = k .next .key; answer = k .next .answer } ∷ w .said) (w .said))
-        go true = perm.both (not-full us space) (before .of-said)
+        go true = every.both (not-full us space) (before .of-said)
         go false = before .of-said
 
     fair-stepped : Fair m r start (stepped-world w i (k .next) (k .words))

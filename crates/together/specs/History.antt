@@ -1,23 +1,21 @@
 -- Counting over the records and the history: how often a key is busy, loaded (put and not yet answered), answered;
 -- and what a give and a step do to these counts.
 -- Assumes nothing.
-use Prim.Native.Nat.{ℕ, zero, suc, _+_, _*_, _≤_, _<_}
-use mathlib.Core.Path.{_≡_, refl, sym, ap, ap₂, _∙_, subst}
+use Prim.Native.Nat.{ℕ, zero, suc, _+_, _≤_, _<_}
+use mathlib.Core.Path.{_≡_, refl, sym, ap, ap₂, _∙_}
 use mathlib.Core.Logic.{_⊎_, _≢_, inl, inr}
-use mathlib.Core.Bool.{Bool, true, false, not, cond, _&&_, _||_, true≢false, false≢true}
-use mathlib.Core.List.{List, [], _∷_, _++_, map}
+use mathlib.Core.Bool.{Bool, true, false, cond, _&&_, _||_, false≢true}
+use mathlib.Core.List.{List, [], _∷_}
 use native.Mathlib.Omega.{arith}
-use lib.ListN.{length, getD, set, length-set}
-use lib.Dec.{eqb, leb, ltb}
-use borrow.Author.Tests.{eqb-true, eqb-false, eq-eqb, ne-eqb, le-leb, lt-leb, leb-true, leb-false, lt-ltb, ltb-true}
-use borrow.Author.Tests.{le-ltb, ltb-false}
-use Rattle.rules.specs.declared.Shape.{Shape}
+use lib.ListN.{length, getD, set}
+use lib.Dec.{eqb, leb}
+use borrow.Author.Tests.{eqb-true, eqb-false, le-leb}
 use Rattle.rules.specs.declared.Task.{Task}
-use Rattle.rules.specs.Lists.{bitOf, count, all, any}
+use Rattle.rules.specs.Lists.{bitOf, count, all}
 use Rattle.rules.specs.Record.{within, busy, atRest}
 use Rattle.rules.specs.Give.{noTask, taskAt}
 use Rattle.theory.specs.Dealt.{and-left, and-right}
-use Rattle.together.specs.Machine.{Said, timesGiven, timesSaid, timesInserted}
+use Rattle.together.specs.Machine.{Said, timesSaid, timesInserted}
 use Rattle.together.specs.Walk.{weight}
 
 -- ---- counting over a list in which one element is stored anew

@@ -331,11 +331,6 @@ module _ {sh : Shape} {ws : List Word} {ts : List Task} {laid : List Word} {show
         next : Task
         next = withLeft (t .left - 1) t
 
-        no-guard : t .left ≢ 0
-        no-guard e =
-            true≢false
-            (sym taken ∙ ap (λ (q : ℕ). at ws q .occupied) e ∙ sym (occupied-at ws 0) ∙ guards-free low inv .left)
-
         near : LookedLeft sh ws next
         near =
             record {
