@@ -78,30 +78,32 @@ bytes-small (w ∷ ws) small zero = omega arith
 bytes-small (w ∷ ws) small (suc zero) = omega (arith, number-small w (small 0))
 bytes-small (w ∷ ws) small (suc (suc i)) = bytes-small ws (λ p. small (suc p)) i
 
-module _ (m r : ℕ) (range : InRange (shapeOf m r)) {ws : List Word} {es : List Entry} (t : State (shapeOf m r) ws es) where
-  pub words-back : wordsOf (bytesOf ws) ≡ ws
-  words-back = words-of-bytes ws (table-small (remainders-high (shapeOf m r) range) (t .table))
+module _ (m r : ℕ) (range : InRange (shapeOf m r)) {ws : List Word} {es : List Entry}
+    (t : State (shapeOf m r) ws es)
+  where
+    pub words-back : wordsOf (bytesOf ws) ≡ ws
+    words-back = words-of-bytes ws (table-small (remainders-high (shapeOf m r) range) (t .table))
 
-  -- the bytes of an unlocked table are a plain table that shows the table's entries
-  pub plain-of : PlainTable m r (bytesOf ws)
-  unfolding goodTable fitsLength
-  plain-of =
-      record {
-        whole =
-            record {
-              good =
-                  and-both
-                  _
-                  _
-                  (range-in (shapeOf m r) range)
-                  (eq-eqb _ _ (bytes-length ws ∙ ap (λ (n : ℕ). 2 * n) (t .size)));
-              small = bytes-small ws (table-small (remainders-high (shapeOf m r) range) (t .table));
-              sound-words =
-                  ap (sound (shapeOf m r)) words-back
-                  ∙ table-is-sound (shapeOf m r) (remainders-high (shapeOf m r) range) (t .size) (t .table);
-            };
-        unlocked = ap locked words-back ∙ t .free;
-      }
+    -- the bytes of an unlocked table are a plain table that shows the table's entries
+    pub plain-of : PlainTable m r (bytesOf ws)
+    unfolding goodTable fitsLength
+    plain-of =
+        record {
+          whole =
+              record {
+                good =
+                    and-both
+                    _
+                    _
+                    (range-in (shapeOf m r) range)
+                    (eq-eqb _ _ (bytes-length ws ∙ ap (λ (n : ℕ). 2 * n) (t .size)));
+                small = bytes-small ws (table-small (remainders-high (shapeOf m r) range) (t .table));
+                sound-words =
+                    ap (sound (shapeOf m r)) words-back
+                    ∙ table-is-sound (shapeOf m r) (remainders-high (shapeOf m r) range) (t .size) (t .table);
+              };
+          unlocked = ap locked words-back ∙ t .free;
+        }
 
-  pub entries-back : entries (wordsOf (bytesOf ws)) ≡ es
-  entries-back = ap entries words-back ∙ table-entries (shapeOf m r) (remainders-high (shapeOf m r) range) (t .table)
+    pub entries-back : entries (wordsOf (bytesOf ws)) ≡ es
+    entries-back = ap entries words-back ∙ table-entries (shapeOf m r) (remainders-high (shapeOf m r) range) (t .table)

@@ -65,7 +65,8 @@ module _ {m r : ℕ} {bytes : List ℕ} where
   pub listed-here :
       SoundTable m r bytes →
       (key : ℕ) →
-      key < keys (shapeOf m r) → listed key (listOf m r bytes) ≡ holds (split (shapeOf m r) key) (entries (wordsOf bytes))
+      key < keys (shapeOf m r) →
+      listed key (listOf m r bytes) ≡ holds (split (shapeOf m r) key) (entries (wordsOf bytes))
   unfolding list
   listed-here t key lt = listed-holds (shapeOf m r) key lt (in-shape t)
 

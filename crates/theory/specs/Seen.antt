@@ -171,7 +171,16 @@ locate-from {d} {p} {u} {xs} g {v} {ys} q at left void (right-end e f) low high 
     })
 locate-from {d} {p} {u} {xs} g {v} {ys} q at left void (right-more run h w zs ts r hollow rest e f) low high =
     here-or-on (eqb p (length u)) refl (ltb p (q + length run)) refl
-    (λ k. locate-from {p = p} h (suc (q + length run)) far (left-on g run zs left void (subst (λ (n : ℕ). Run d n run zs) at r)) hollow rest k
+    (λ k.
+    locate-from
+    {p = p}
+    h
+    (suc (q + length run))
+    far
+    (left-on g run zs left void (subst (λ (n : ℕ). Run d n run zs) at r))
+    hollow
+    rest
+    k
     (omega (arith, ap length e, length-append run (h ∷ w))))
   where
     far : suc (q + length run) ≡ suc (length (u ++ (g ∷ run)))

@@ -74,8 +74,12 @@ around {sh} {ws} {ts} {laid} {shown} low inv i lt from-7 to-8 k x left-held righ
           ∙ sound-around sh laid h (look .sound) .run;
       entries =
           sym
-          (ap (λ (hs : List ℕ). deal hs (map unlock (between ws (t .left) (t .right)))) (virgin-unlock (suc (t .left)) (between ws (t .left) (t .right)))
-          ∙ deal-unlock (virginPlaces (suc (t .left)) (between ws (t .left) (t .right))) (between ws (t .left) (t .right)))
+          (ap
+          (λ (hs : List ℕ). deal hs (map unlock (between ws (t .left) (t .right))))
+          (virgin-unlock (suc (t .left)) (between ws (t .left) (t .right)))
+          ∙ deal-unlock
+          (virginPlaces (suc (t .left)) (between ws (t .left) (t .right)))
+          (between ws (t .left) (t .right)))
           ∙ ap (λ (vs : List Word). deal (virginPlaces (suc (t .left)) vs) vs) run-same;
       same =
           ap₂ (λ (l r : ℕ). holds (split sh (t .key)) (entriesBetween laid l r)) (sym left-is) (sym right-is)

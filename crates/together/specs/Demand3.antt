@@ -63,7 +63,8 @@ module _ {m r : ℕ} {bytes : List ℕ} (t : PlainTable m r bytes) (ts : List Ta
 
       tally :
           (x : ℕ) →
-          bitOf (listed x (listOf m r bytes)) + timesInserted x (after .said) ≡ bitOf (listed x (listOf m r (after .table)))
+          bitOf (listed x (listOf m r bytes)) + timesInserted x (after .said)
+          ≡ bitOf (listed x (listOf m r (after .table)))
       unfolding quiet
       tally = proof.rest-tally t fair done
 

@@ -98,7 +98,8 @@ pub record Fair (m r : ℕ) (start : List ℕ) (w : World) : Type 0 where
   pub task-given :
       (i : ℕ) →
       i < length (w .tasks) →
-      1 ≤ taskAt (w .tasks) i .phase → taskAt (w .tasks) i .phase ≤ 12 → listed (taskAt (w .tasks) i .key) (w .given) ≡ true
+      1 ≤ taskAt (w .tasks) i .phase → taskAt (w .tasks) i .phase ≤ 12 →
+      listed (taskAt (w .tasks) i .key) (w .given) ≡ true
   pub in-keys : InKeys (shapeOf m r) (w .given)
   pub meaning : All (Means (shapeOf m r) shown) (w .said)
   pub none-full : (us : List Entry) → Spacious m r start (w .given) us → NoneFull (w .tasks) (w .said)
@@ -327,7 +328,9 @@ fair-given {m} {r} {start} {w} i key f lt small idle =
         1 ≤ taskAt (set (w .tasks) i (given key)) j .phase →
         taskAt (set (w .tasks) i (given key)) j .phase ≤ 12 →
         (j ≡ i) ⊎ (j ≢ i) →
-        (eqb (taskAt (set (w .tasks) i (given key)) j .key) key || listed (taskAt (set (w .tasks) i (given key)) j .key) (w .given)) ≡ true
+        (eqb (taskAt (set (w .tasks) i (given key)) j .key) key
+        || listed (taskAt (set (w .tasks) i (given key)) j .key) (w .given))
+        ≡ true
     or-else j l a b (inl e) =
         or-left
         _
@@ -367,7 +370,8 @@ fair-give {m} {r} {start} {w} i key f =
     sixteen = le-leb (length (w .tasks)) 16 (f .few)
 
     by-answer :
-        {x : Leaves (List Task)} → give m r key (w .tasks) i ≡ x → Fair m r start (afterGive w key x) → Fair m r start (act m r w (gives i key))
+        {x : Leaves (List Task)} → give m r key (w .tasks) i ≡ x → Fair m r start (afterGive w key x) →
+        Fair m r start (act m r w (gives i key))
     by-answer e g = subst (λ (x : Leaves (List Task)). Fair m r start (afterGive w key x)) (sym e) g
 
     go :
@@ -541,7 +545,9 @@ module _ {m r : ℕ} {start : List ℕ} {w : World} (f : Fair m r start w) (i : 
                 let apart = eqb-false key (t .key) (sym (same-split (shapeOf m r) key (t .key)) ∙ k) in
                 ap (λ (b : Bool). bitOf (b || holds (split (shapeOf m r) key) (f .shown))) k
                 ∙ sym
-                (ap (λ (a : Bool). bitOf a + bitOf (holds (split (shapeOf m r) key) (f .shown))) (ne-eqb (t .key) key (λ z. apart (sym z)))
+                (ap
+                (λ (a : Bool). bitOf a + bitOf (holds (split (shapeOf m r) key) (f .shown)))
+                (ne-eqb (t .key) key (λ z. apart (sym z)))
                 ∙ zero-add (bitOf (holds (split (shapeOf m r) key) (f .shown))))
 
 -- ---- the world after a step
@@ -603,7 +609,11 @@ module _ {m r : ℕ} {start : List ℕ} {w : World} (f : Fair m r start w) (i : 
         _
         _
         (bytes-length (k .words)
-        ∙ ap (λ (n : ℕ). 2 * n) (words-size (remainders-high (shapeOf m r) (good-table (shapeOf m r) (length (w .table)) (f .good) .0)) (inv-update i lt (f .inv) (k .shows)))))
+        ∙ ap
+        (λ (n : ℕ). 2 * n)
+        (words-size
+        (remainders-high (shapeOf m r) (good-table (shapeOf m r) (length (w .table)) (f .good) .0))
+        (inv-update i lt (f .inv) (k .shows)))))
 
     -- the stepped record's key, and every other's, was given
     still-given :
@@ -648,7 +658,9 @@ module _ {m r : ℕ} {start : List ℕ} {w : World} (f : Fair m r start w) (i : 
         go :
             (b : Bool) →
             eqb (k .next .phase) 13 ≡ b →
-            All (Means (shapeOf m r) (k .shown-after)) (cond b (record { key = k .next .key; answer = k .next .answer } ∷ w .said) (w .said))
+            All
+            (Means (shapeOf m r) (k .shown-after))
+            (cond b (record { key = k .next .key; answer = k .next .answer } ∷ w .said) (w .said))
         go true e = every.both (meant (k .ends (eqb-true (k .next .phase) 13 e))) older
         go false e = older
 
@@ -677,7 +689,9 @@ module _ {m r : ℕ} {start : List ℕ} {w : World} (f : Fair m r start w) (i : 
 
         go :
             (taskAt (w .tasks) i .answer ≡ 3)
-            ⊎ (AllTaken (shapeOf m r) (occupied (f .laid)) × (holds (split (shapeOf m r) (taskAt (w .tasks) i .key)) (f .shown) ≡ false)) → ⊥
+            ⊎ (AllTaken (shapeOf m r) (occupied (f .laid))
+            × (holds (split (shapeOf m r) (taskAt (w .tasks) i .key)) (f .shown) ≡ false)) →
+            ⊥
         go (inl before) = f .none-full us space .of-busy i lt first last before
         go (inr (every, new)) =
             put-not-full
@@ -727,7 +741,11 @@ module _ {m r : ℕ} {start : List ℕ} {w : World} (f : Fair m r start w) (i : 
             (subst (λ (t : Task). t .phase ≤ 12) same b)
             (sym (ap (λ (t : Task). t .answer) same) ∙ full)
 
-        go : (b : Bool) → All (λ (s : Said). s .answer ≢ 3) (cond b (record { key = k .next .key; answer = k .next .answer } ∷ w .said) (w .said))
+        go :
+            (b : Bool) →
+            All
+            (λ (s : Said). s .answer ≢ 3)
+            (cond b (record { key = k .next .key; answer = k .next .answer } ∷ w .said) (w .said))
         go true = every.both (not-full us space) (before .of-said)
         go false = before .of-said
 
@@ -764,7 +782,8 @@ data StepCase {m r : ℕ} {start : List ℕ} {w : World} (f : Fair m r start w) 
   no-task : length (w .tasks) ≤ i → step m r (w .table) (w .tasks) i ≡ leaves (refuses 3) (lent w) → StepCase f i
   resting :
       i < length (w .tasks) →
-      atRest (taskAt (w .tasks) i) ≡ true → step m r (w .table) (w .tasks) i ≡ leaves (refuses 5) (lent w) → StepCase f i
+      atRest (taskAt (w .tasks) i) ≡ true → step m r (w .table) (w .tasks) i ≡ leaves (refuses 5) (lent w) →
+      StepCase f i
   walked :
       (lt : i < length (w .tasks)) →
       1 ≤ taskAt (w .tasks) i .phase →

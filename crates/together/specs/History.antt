@@ -131,7 +131,9 @@ tally-step key ts i t′ ss lt before after same = go (eqb (t′ .phase) 13) ref
     go :
         (b : Bool) →
         eqb (t′ .phase) 13 ≡ b →
-        count (λ (s : Said). eqb (s .key) key && eqb (s .answer) 2) (cond b (record { key = t′ .key; answer = t′ .answer } ∷ ss) ss)
+        count
+        (λ (s : Said). eqb (s .key) key && eqb (s .answer) 2)
+        (cond b (record { key = t′ .key; answer = t′ .answer } ∷ ss) ss)
         + count (λ (u : Task). eqb (u .key) key && loaded u) (set ts i t′)
         + cond (eqb (t .key) key) (weight t) 0
         ≡ count (λ (s : Said). eqb (s .key) key && eqb (s .answer) 2) ss
@@ -221,8 +223,12 @@ pub give-tally :
     × (timesBusy key (set ts i t′) ≡ timesBusy key ts + bitOf (eqb (t′ .key) key))
 unfolding timesLoaded timesBusy
 give-tally key ts i t′ lt rest one = (
-  omega
-      (arith, count-set (λ (u : Task). eqb (u .key) key && loaded u) ts i t′ noTask lt, light (loaded-rest rest), light′),
+  omega (
+    arith,
+    count-set (λ (u : Task). eqb (u .key) key && loaded u) ts i t′ noTask lt,
+    light (loaded-rest rest),
+    light′,
+  ),
   omega (arith, count-set (λ (u : Task). eqb (u .key) key && busy u) ts i t′ noTask lt, idle (busy-rest rest), new),
 )
   where

@@ -280,7 +280,12 @@ module _ {m r : ℕ} {start : List ℕ} {w : World} (t : PlainTable m r start) (
       -- each given key is shown
       given-shown : (x : ℕ) → listed x (w .given) ≡ true → holds (split (shapeOf m r) x) (f .shown) ≡ true
       given-shown x h =
-          said-shown x (w .said) (f .meaning) rest-none-full (omega (arith, rest-answers x, listed-times x (w .given) h))
+          said-shown
+          x
+          (w .said)
+          (f .meaning)
+          rest-none-full
+          (omega (arith, rest-answers x, listed-times x (w .given) h))
 
       pub rest-listed : (x : ℕ) → listed x (w .given) ≡ true → listed x (listOf m r (w .table)) ≡ true
       rest-listed x h =
@@ -346,7 +351,8 @@ module _ {m r : ℕ} {start : List ℕ} {w : World} (t : PlainTable m r start) (
               (p g s : Bool) →
               holds e (f .put) ≡ p →
               listed x (w .given) ≡ g →
-              listed x (listOf m r start) ≡ s → (listed x (w .given) && not (listed x (listOf m r start))) ≡ holds e (f .put)
+              listed x (listOf m r start) ≡ s →
+              (listed x (w .given) && not (listed x (listOf m r start))) ≡ holds e (f .put)
           go true g s k l n =
               ap₂
               (λ (a b : Bool). a && not b)
@@ -357,7 +363,8 @@ module _ {m r : ℕ} {start : List ℕ} {w : World} (t : PlainTable m r start) (
           go false false s k l n = ap (λ (a : Bool). a && not (listed x (listOf m r start))) l ∙ sym k
 
       module _ (ks : List ℕ) (h : InKeys (shapeOf m r) ks)
-          (new : (x : ℕ) → x < keys (shapeOf m r) → listed x ks ≡ (listed x (w .given) && not (listed x (listOf m r start))))
+          (new :
+          (x : ℕ) → x < keys (shapeOf m r) → listed x ks ≡ (listed x (w .given) && not (listed x (listOf m r start))))
         where
           -- the starting keys and the new ones are no more than the starting keys and the given ones
           new-inside : Inside (ascend (entriesOf (shapeOf m r) (listOf m r start ++ ks))) us
@@ -446,5 +453,8 @@ module _ {m r : ℕ} {start : List ℕ} {w : World} (t : PlainTable m r start) (
               ∙ sym (f .chain)
               ∙ sym words-laid)
             where
-              done : PlainTable m r (putAll m r start js) × (wordsOf (putAll m r start js) ≡ puts (shapeOf m r) (wordsOf start) (entriesOf (shapeOf m r) js))
+              done :
+                  PlainTable m r (putAll m r start js)
+                  × (wordsOf (putAll m r start js)
+                  ≡ puts (shapeOf m r) (wordsOf start) (entriesOf (shapeOf m r) js))
               done = put-all-plain js t (put-back .1)
