@@ -1,5 +1,5 @@
 -- Hexadecimal digits (01, The frame program): either letter case is read, capitals are printed.
--- `worth`, `number`: what is read. `twoDigits`, `wordDigits`: what is printed.
+-- `worth`, `number`: what is read. `digitsOf`, `wordDigits`: what is printed.
 -- Assumes nothing.
 use Prim.Native.Nat.{ℕ, _+_, _*_, _-_, _/_, _%_}
 use mathlib.Core.Bool.{Bool, cond, _||_}

@@ -1,5 +1,5 @@
 -- A line's keys run through idle tasks, as the code has them. `play-is`: sixteen idle places of which n sit are the
--- start that the format names. `line-played`, `line-refused` and on: the call for one line by its tests.
+-- start that the format names. `limit-fits`, `limit-is`: the limit of rounds as the code computes it.
 -- Assumes nothing.
 use Prim.Native.Nat.{ℕ, zero, suc, _+_, _*_, _≤_, _<_}
 use mathlib.Core.Path.{_≡_, refl, ap, ap₂, _∙_}

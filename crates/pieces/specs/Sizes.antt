@@ -1,5 +1,5 @@
 -- How long things stay: a step keeps the table's length and the number of tasks, and so does a line's play, which has
--- an answer for each key (`step-size`, `play-sizes`).
+-- an answer for each key (`step-bytes`, `step-tasks`, `play-sizes`).
 -- Assumes nothing.
 use Prim.Native.Nat.{ℕ, zero, suc, _*_, _-_}
 use mathlib.Core.Path.{_≡_, refl, sym, ap, _∙_}

@@ -1,4 +1,4 @@
--- Puts one by one: their order and their repeats do not matter, as long as there is room for all (`puts-same`), and
+-- Puts one by one: their order and their repeats do not matter, as long as there is room for all (`puts-ascend`), and
 -- what they leave (`puts-state`). Its heart: on tables with room, putting two keys commutes (`put-swap`) and putting
 -- one twice is putting it once.
 -- Assumes nothing.
