@@ -1,5 +1,6 @@
 -- A line of keys, and any line, as the code closes them. `came-is`: what the call for one line comes to is the format's
--- frameLine. `text-closed`, `long-closed`: a line held whole, and one too long. `first-in` to `ended-in`: by stage.
+-- frameLine, and `text-closed` closes it. `held-whole`, `held-long`: a line held whole, and one too long. `first-in`
+-- to `ended-in`: by stage.
 -- Assumes nothing.
 use Prim.Native.Nat.{ℕ, _+_, _-_, _*_, _≤_, _<_}
 use mathlib.Core.Path.{_≡_, refl, ap, subst, _∙_}

@@ -5,7 +5,6 @@ use crate::print::error;
 use crate::print::print_table;
 use format::Run;
 use format::Stage;
-use rules::Shape;
 use words::shape::homes;
 use words::shape::shape_of;
 ghost use mathlib.Core.Path.{_≡_};

@@ -10,8 +10,8 @@ use lib.ListN.{length, getD, set, replicate}
 use lib.Dec.{eqb}
 use borrow.Author.Tests.{eqb-true, eqb-false, eq-eqb, ne-eqb}
 use Rattle.rules.specs.Lists.{bitOf, count}
-use Rattle.theory.specs.Perm as perm
-use Rattle.theory.specs.Perm.{All}
+use Rattle.theory.specs.Every as every
+use Rattle.theory.specs.Every.{All}
 use Rattle.together.specs.Machine.{Said}
 use Rattle.day.specs.Terms.{paired, keysIn, answeredSo}
 
@@ -40,8 +40,8 @@ module _ {A : Type 0} where
   pub count-also :
       (q p : A → Bool) {xs : List A} → All (λ (x : A). q x ≡ true) xs → count (λ (x : A). q x && p x) xs ≡ count p xs
   unfolding count
-  count-also q p perm.none = refl
-  count-also q p (perm.both {x = x} {xs = xs} h hs) =
+  count-also q p every.none = refl
+  count-also q p (every.both {x = x} {xs = xs} h hs) =
       ap₂ _+_ (ap (λ (b : Bool). bitOf (b && p x)) h) (count-also q p hs)
 
   -- with a second test no more pass
@@ -60,7 +60,7 @@ module _ {A : Type 0} where
       (q p : A → Bool) (xs : List A) →
       count (λ (x : A). q x && p x) xs ≡ count p xs → All (λ (x : A). p x ≡ true → q x ≡ true) xs
   unfolding count
-  count-same q p [] e = perm.none
+  count-same q p [] e = every.none
   count-same q p (x ∷ xs) e = go (q x) (p x) refl refl e (λ s. count-same q p xs s)
     where
       go :
@@ -70,26 +70,26 @@ module _ {A : Type 0} where
           bitOf (a && b) + count (λ (y : A). q y && p y) xs ≡ bitOf b + count p xs →
           (count (λ (y : A). q y && p y) xs ≡ count p xs → All (λ (y : A). p y ≡ true → q y ≡ true) xs) →
           All (λ (y : A). p y ≡ true → q y ≡ true) (x ∷ xs)
-      go true b k l s more = perm.both (λ z. k) (more (omega arith))
-      go false false k l s more = perm.both (λ z. absurd (true≢false (sym z ∙ l))) (more (omega arith))
+      go true b k l s more = every.both (λ z. k) (more (omega arith))
+      go false false k l s more = every.both (λ z. absurd (true≢false (sym z ∙ l))) (more (omega arith))
       go false true k l s more = absurd (omega (arith, count-fewer q p xs))
 
   -- none pass, one by one or by their count
   pub count-none : (p : A → Bool) {xs : List A} → All (λ (x : A). p x ≡ false) xs → count p xs ≡ 0
   unfolding count
-  count-none p perm.none = refl
-  count-none p (perm.both h hs) = omega (arith, ap bitOf h, count-none p hs)
+  count-none p every.none = refl
+  count-none p (every.both h hs) = omega (arith, ap bitOf h, count-none p hs)
 
   pub none-counted : (p : A → Bool) (xs : List A) → count p xs ≡ 0 → All (λ (x : A). p x ≡ false) xs
   unfolding count
-  none-counted p [] e = perm.none
+  none-counted p [] e = every.none
   none-counted p (x ∷ xs) e = go (p x) refl e (λ s. none-counted p xs s)
     where
       go :
           (b : Bool) → p x ≡ b → bitOf b + count p xs ≡ 0 → (count p xs ≡ 0 → All (λ (y : A). p y ≡ false) xs) →
           All (λ (y : A). p y ≡ false) (x ∷ xs)
       go true k s more = absurd (omega arith)
-      go false k s more = perm.both k (more (omega arith))
+      go false k s more = every.both k (more (omega arith))
 
 -- ---- keys with their answers
 -- one answer stored anew

@@ -14,7 +14,7 @@ use Rattle.rules.specs.Lists.{bitOf}
 use Rattle.rules.specs.Shape.{shapeOf, homes, keys, goodTable}
 use Rattle.rules.specs.Answer.{says, leaves}
 use Rattle.rules.specs.Build.{build}
-use Rattle.theory.specs.Perm.{All}
+use Rattle.theory.specs.Every.{All}
 use Rattle.theory.specs.Keys.{Ascending, listed}
 use Rattle.demands.specs.Terms.{PlainTable, InKeys, listOf, distinct, putAll}
 use Rattle.demands.specs.Demand2.{list-ascends}

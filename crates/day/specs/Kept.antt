@@ -18,8 +18,8 @@ use Rattle.rules.specs.Answer.{says, leaves}
 use Rattle.rules.specs.Put.{put}
 use Rattle.rules.specs.Build.{build}
 use Rattle.words.specs.Range.{good-table}
-use Rattle.theory.specs.Perm as perm
-use Rattle.theory.specs.Perm.{All}
+use Rattle.theory.specs.Every as every
+use Rattle.theory.specs.Every.{All}
 use Rattle.theory.specs.Dealt.{or-left, or-right}
 use Rattle.theory.specs.Joined.{map-append}
 use Rattle.theory.specs.Keys.{listed}
@@ -73,11 +73,11 @@ zeros-kept f h =
           sym
           (ap (λ (bs : List ℕ). bitOf (listed x (listOf (f .m) (f .r) bs))) part
           ∙ ap (λ (ks : List ℕ). bitOf (listed x ks)) (zeros-list (f .m) (f .r) (l .range)));
-      known = perm.none;
+      known = every.none;
       in-keys = refl;
       roomed = λ us k few in-us.
           record {
-            none-full = perm.none;
+            none-full = every.none;
             every-listed = λ x there. absurd (false≢true there);
             bytes = sym part;
           };
@@ -91,8 +91,8 @@ zeros-kept f h =
 
 -- ---- a line of keys, all answered
 all-append : {A : Type 0} {P : A → Type 0} {xs ys : List A} → All P xs → All P ys → All P (xs ++ ys)
-all-append perm.none qs = qs
-all-append (perm.both p ps) qs = perm.both p (all-append ps qs)
+all-append every.none qs = qs
+all-append (every.both p ps) qs = every.both p (all-append ps qs)
 
 -- keys put one by one, in two parts
 puts-append :

@@ -14,8 +14,8 @@ use Rattle.rules.specs.declared.Task.{Task}
 use Rattle.rules.specs.Lists.{bitOf, count, all}
 use Rattle.rules.specs.Record.{within, atRest}
 use Rattle.rules.specs.Give.{noTask}
-use Rattle.theory.specs.Perm as perm
-use Rattle.theory.specs.Perm.{All}
+use Rattle.theory.specs.Every as every
+use Rattle.theory.specs.Every.{All}
 use Rattle.theory.specs.Dealt.{and-left, and-right, and-both}
 use Rattle.theory.specs.Keys.{listed}
 use Rattle.demands.specs.Terms.{PlainTable, listOf}
@@ -37,21 +37,21 @@ pub all-alike :
     {A : Type 0} {P : A → Type 0} (fails : A → Bool) {xs ys : List A} →
     ((x : A) → P x → fails x ≡ false) → ((x : A) → fails x ≡ false → P x) → Alike xs ys → All P xs → All P ys
 all-alike fails {xs} {ys} tested holds same h =
-    perm.all-map holds (none-counted fails ys (sym (same fails) ∙ count-none fails (perm.all-map tested h)))
+    every.all-map holds (none-counted fails ys (sym (same fails) ∙ count-none fails (every.all-map tested h)))
 
 -- what holds of the elements of each key holds of all
 every-key :
     {Q : Said → Type 0} (ss : List Said) → ((x : ℕ) → All (λ (s : Said). eqb (s .key) x ≡ true → Q s) ss) → All Q ss
-every-key [] h = perm.none
-every-key {Q} (s ∷ ss) h = perm.both (first (h (s .key))) (every-key ss (λ x. rest x (h x)))
+every-key [] h = every.none
+every-key {Q} (s ∷ ss) h = every.both (first (h (s .key))) (every-key ss (λ x. rest x (h x)))
   where
     first : All (λ (u : Said). eqb (u .key) (s .key) ≡ true → Q u) (s ∷ ss) → Q s
-    first (perm.both q qs) = q (eq-eqb (s .key) (s .key) refl)
+    first (every.both q qs) = q (eq-eqb (s .key) (s .key) refl)
 
     rest :
         (x : ℕ) → All (λ (u : Said). eqb (u .key) x ≡ true → Q u) (s ∷ ss) →
         All (λ (u : Said). eqb (u .key) x ≡ true → Q u) ss
-    rest x (perm.both q qs) = qs
+    rest x (every.both q qs) = qs
 
 times-given : (x : ℕ) (ks : List ℕ) → timesGiven x ks ≡ count (λ (k : ℕ). eqb k x) ks
 unfolding timesGiven count

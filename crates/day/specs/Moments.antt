@@ -300,4 +300,4 @@ module _ {m r : ℕ} {bytes : List ℕ} (n : ℕ) (ks : List ℕ) (t : PlainTabl
 
     pub play-follows : Follows m r n bytes ks (play m r n bytes ks)
     unfolding play
-    play-follows = rounds-follow (limit m r (length ks))
+    play-follows = rounds-follow (limit m (length ks))

@@ -17,7 +17,7 @@ use Rattle.rules.specs.Shape.{shapeOf, homes, remainders, keys}
 use Rattle.rules.specs.Entry.{Entry, join}
 use Rattle.rules.specs.Lay.{holds, ascend}
 use Rattle.rules.specs.Give.{noTask}
-use Rattle.theory.specs.Perm.{All}
+use Rattle.theory.specs.Every.{All}
 use Rattle.theory.specs.Insert.{ascend-asc, holds-ascend}
 use Rattle.theory.specs.Dealt.{and-left, and-right, and-both, or-left, or-right}
 use Rattle.theory.specs.Keys.{listed}

@@ -16,8 +16,8 @@ use Rattle.rules.specs.Lay.{lay}
 use Rattle.words.specs.Range.{InRange, good-table, range-in, remainders-high}
 use Rattle.words.specs.Number.{number-small}
 use Rattle.words.specs.Layout.{words-length, bytes-length, words-of-bytes}
-use Rattle.theory.specs.Perm as perm
-use Rattle.theory.specs.Perm.{All}
+use Rattle.theory.specs.Every as every
+use Rattle.theory.specs.Every.{All}
 use Rattle.theory.specs.Insert.{asc-all}
 use Rattle.theory.specs.Dealt.{and-both}
 use Rattle.theory.specs.Locks.{at-unlock}
@@ -57,10 +57,10 @@ unfolding lay
 lay-small whole q [] p low = omega arith
 lay-small whole q (false ∷ os) zero low = omega arith
 lay-small whole q (false ∷ os) (suc p) low = lay-small whole (suc q) os p low
-lay-small whole q (true ∷ os) zero perm.none = omega arith
-lay-small whole q (true ∷ os) (suc p) perm.none = lay-small whole (suc q) os p perm.none
-lay-small whole q (true ∷ os) zero (perm.both l ls) = l
-lay-small whole q (true ∷ os) (suc p) (perm.both l ls) = lay-small whole (suc q) os p ls
+lay-small whole q (true ∷ os) zero every.none = omega arith
+lay-small whole q (true ∷ os) (suc p) every.none = lay-small whole (suc q) os p every.none
+lay-small whole q (true ∷ os) zero (every.both l ls) = l
+lay-small whole q (true ∷ os) (suc p) (every.both l ls) = lay-small whole (suc q) os p ls
 
 -- a table's remainders are below 4096
 pub table-small :
@@ -69,7 +69,7 @@ table-small {ws = ws} {es} s t p =
     subst
     (λ (x : ℕ). x < 4096)
     (ap (λ (vs : List Word). at vs p .remainder) (table-lay s t) ∙ ap (λ (w : Word). w .remainder) (at-unlock ws p))
-    (lay-small es 0 (occupied ws) p (perm.all-map (λ e w. omega (arith, w .low)) (asc-all (table-asc s t))))
+    (lay-small es 0 (occupied ws) p (every.all-map (λ e w. omega (arith, w .low)) (asc-all (table-asc s t))))
 
 pub bytes-small : (ws : List Word) → ((p : ℕ) → at ws p .remainder < 4096) → (i : ℕ) → getD (bytesOf ws) i 0 < 256
 unfolding bytesOf
@@ -78,30 +78,32 @@ bytes-small (w ∷ ws) small zero = omega arith
 bytes-small (w ∷ ws) small (suc zero) = omega (arith, number-small w (small 0))
 bytes-small (w ∷ ws) small (suc (suc i)) = bytes-small ws (λ p. small (suc p)) i
 
-module _ (m r : ℕ) (range : InRange (shapeOf m r)) {ws : List Word} {es : List Entry} (t : State (shapeOf m r) ws es) where
-  pub words-back : wordsOf (bytesOf ws) ≡ ws
-  words-back = words-of-bytes ws (table-small (remainders-high (shapeOf m r) range) (t .table))
+module _ (m r : ℕ) (range : InRange (shapeOf m r)) {ws : List Word} {es : List Entry}
+    (t : State (shapeOf m r) ws es)
+  where
+    pub words-back : wordsOf (bytesOf ws) ≡ ws
+    words-back = words-of-bytes ws (table-small (remainders-high (shapeOf m r) range) (t .table))
 
-  -- the bytes of an unlocked table are a plain table that shows the table's entries
-  pub plain-of : PlainTable m r (bytesOf ws)
-  unfolding goodTable fitsLength
-  plain-of =
-      record {
-        whole =
-            record {
-              good =
-                  and-both
-                  _
-                  _
-                  (range-in (shapeOf m r) range)
-                  (eq-eqb _ _ (bytes-length ws ∙ ap (λ (n : ℕ). 2 * n) (t .size)));
-              small = bytes-small ws (table-small (remainders-high (shapeOf m r) range) (t .table));
-              sound-words =
-                  ap (sound (shapeOf m r)) words-back
-                  ∙ table-is-sound (shapeOf m r) (remainders-high (shapeOf m r) range) (t .size) (t .table);
-            };
-        unlocked = ap locked words-back ∙ t .free;
-      }
+    -- the bytes of an unlocked table are a plain table that shows the table's entries
+    pub plain-of : PlainTable m r (bytesOf ws)
+    unfolding goodTable fitsLength
+    plain-of =
+        record {
+          whole =
+              record {
+                good =
+                    and-both
+                    _
+                    _
+                    (range-in (shapeOf m r) range)
+                    (eq-eqb _ _ (bytes-length ws ∙ ap (λ (n : ℕ). 2 * n) (t .size)));
+                small = bytes-small ws (table-small (remainders-high (shapeOf m r) range) (t .table));
+                sound-words =
+                    ap (sound (shapeOf m r)) words-back
+                    ∙ table-is-sound (shapeOf m r) (remainders-high (shapeOf m r) range) (t .size) (t .table);
+              };
+          unlocked = ap locked words-back ∙ t .free;
+        }
 
-  pub entries-back : entries (wordsOf (bytesOf ws)) ≡ es
-  entries-back = ap entries words-back ∙ table-entries (shapeOf m r) (remainders-high (shapeOf m r) range) (t .table)
+    pub entries-back : entries (wordsOf (bytesOf ws)) ≡ es
+    entries-back = ap entries words-back ∙ table-entries (shapeOf m r) (remainders-high (shapeOf m r) range) (t .table)

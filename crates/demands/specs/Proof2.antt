@@ -23,8 +23,8 @@ use Rattle.rules.specs.Put.{addAt, Outcome, writes, putIn, bytesAfter, put}
 use Rattle.words.specs.Range.{InRange, good-table}
 use Rattle.words.specs.Split.{InShape, split-in-shape, join-split, split-join}
 use Rattle.words.specs.Layout.{same-bytes}
-use Rattle.theory.specs.Perm as perm
-use Rattle.theory.specs.Perm.{All}
+use Rattle.theory.specs.Every as every
+use Rattle.theory.specs.Every.{All}
 use Rattle.theory.specs.Gaps.{HomePlace, AllTaken, room-full, full-room}
 use Rattle.theory.specs.Finding.{find-table}
 use Rattle.theory.specs.Putting.{Puts, found, inserted, overflow, put-table, table-guarded}
@@ -43,8 +43,8 @@ home-of-key sh key lt =
 
 -- the entries are the keys of the list, split
 pub split-keys : (sh : Shape) {es : List Entry} → All (InShape sh) es → map (split sh) (map (join sh) es) ≡ es
-split-keys sh perm.none = refl
-split-keys sh (perm.both {x = e} i is) = ap₂ _∷_ (split-join sh e i) (split-keys sh is)
+split-keys sh every.none = refl
+split-keys sh (every.both {x = e} i is) = ap₂ _∷_ (split-join sh e i) (split-keys sh is)
 
 module _ {m r : ℕ} {bytes : List ℕ} where
   pub in-shape : SoundTable m r bytes → All (InShape (shapeOf m r)) (entries (wordsOf bytes))
@@ -65,7 +65,8 @@ module _ {m r : ℕ} {bytes : List ℕ} where
   pub listed-here :
       SoundTable m r bytes →
       (key : ℕ) →
-      key < keys (shapeOf m r) → listed key (listOf m r bytes) ≡ holds (split (shapeOf m r) key) (entries (wordsOf bytes))
+      key < keys (shapeOf m r) →
+      listed key (listOf m r bytes) ≡ holds (split (shapeOf m r) key) (entries (wordsOf bytes))
   unfolding list
   listed-here t key lt = listed-holds (shapeOf m r) key lt (in-shape t)
 

@@ -24,8 +24,8 @@ use Rattle.words.specs.Split.{InShape, split-in-shape, split-join, join-below}
 use Rattle.words.specs.Layout.{same-bytes, bytes-are}
 use Rattle.theory.specs.Run.{none}
 use Rattle.theory.specs.Dealt.{and-left, and-right, and-both, or-left, or-right}
-use Rattle.theory.specs.Perm as perm
-use Rattle.theory.specs.Perm.{All}
+use Rattle.theory.specs.Every as every
+use Rattle.theory.specs.Every.{All}
 use Rattle.theory.specs.Insert.{Within, ascend-asc, ascend-same, holds-ascend, holds-append, asc-unique, held-all}
 use Rattle.theory.specs.Seen.{Right, right-end, right-more, Table, table}
 use Rattle.theory.specs.Putting.{Puts, found, inserted, overflow}
@@ -84,9 +84,9 @@ split-within sh key lt =
 pub all-within :
     (sh : Shape) (ks : List ℕ) → InKeys sh ks → All (Within (remainders sh) (rightGuard sh) 4096) (entriesOf sh ks)
 unfolding all
-all-within sh [] h = perm.none
+all-within sh [] h = every.none
 all-within sh (k ∷ ks) h =
-    perm.both
+    every.both
     (split-within sh k (ltb-true k (keys sh) (and-left (ltb k (keys sh)) _ h)))
     (all-within sh ks (and-right (ltb k (keys sh)) _ h))
 
@@ -132,7 +132,8 @@ same-entries sh ks js s h k alike x = go (holds x (entriesOf sh ks)) (holds x (e
 
     go :
         (a b : Bool) →
-        holds x (entriesOf sh ks) ≡ a → holds x (entriesOf sh js) ≡ b → holds x (entriesOf sh ks) ≡ holds x (entriesOf sh js)
+        holds x (entriesOf sh ks) ≡ a → holds x (entriesOf sh js) ≡ b →
+        holds x (entriesOf sh ks) ≡ holds x (entriesOf sh js)
     go true b t u = carried ks h t
     go false true t u = carried js k u
     go false false t u = t ∙ sym u
@@ -174,7 +175,8 @@ build-few :
     goodTable (shapeOf m r) (length bytes) ≡ true →
     InKeys (shapeOf m r) ks →
     distinct (shapeOf m r) ks ≤ homes (shapeOf m r) →
-    build m r bytes ks ≡ leaves (says 0) (bytesOf (puts (shapeOf m r) (zeros (shapeOf m r)) (entriesOf (shapeOf m r) ks)))
+    build m r bytes ks
+    ≡ leaves (says 0) (bytesOf (puts (shapeOf m r) (zeros (shapeOf m r)) (entriesOf (shapeOf m r) ks)))
 unfolding buildIn tooMany distinct
 build-few m r bytes ks good h few =
     build-by m r bytes ks good h
@@ -290,12 +292,22 @@ build-order m r bytes ks js good h k alike = go (ltb (homes (shapeOf m r)) (dist
 
 -- what a build ignores: two tables of one length give the same
 pub build-ignores :
-    (m r : ℕ) (bytes others ks : List ℕ) → length bytes ≡ length others → goodTable (shapeOf m r) (length bytes) ≡ true → InKeys (shapeOf m r) ks → build m r bytes ks ≡ build m r others ks
+    (m r : ℕ) (bytes others ks : List ℕ) → length bytes ≡ length others →
+    goodTable (shapeOf m r) (length bytes) ≡ true → InKeys (shapeOf m r) ks →
+    build m r bytes ks ≡ build m r others ks
 unfolding buildIn
 build-ignores m r bytes others ks long good h =
     build-by m r bytes ks good h
-    ∙ ap (λ (n : ℕ). cond (tooMany (shapeOf m r) (entriesOf (shapeOf m r) ks)) (leaves (refuses 8) (replicate n 0)) (leaves (says 0) (bytesOf (puts (shapeOf m r) (zeros (shapeOf m r)) (entriesOf (shapeOf m r) ks))))) long
-    ∙ sym (build-by m r others ks (sym (ap (goodTable (shapeOf m r)) long) ∙ good) h)
+    ∙ ap
+    (λ (n : ℕ).
+    cond (tooMany sh (entriesOf sh ks))
+    (leaves (refuses 8) (replicate n 0))
+    (leaves (says 0) (bytesOf (puts sh (zeros sh) (entriesOf sh ks)))))
+    long
+    ∙ sym (build-by m r others ks (sym (ap (goodTable sh) long) ∙ good) h)
+  where
+    sh : Shape
+    sh = shapeOf m r
 
 -- a list's keys are in range
 pub ascending-keys : (sh : Shape) {b : ℕ} {ks : List ℕ} → Ascending (keys sh) b ks → InKeys sh ks
@@ -347,7 +359,8 @@ put-plain {m} {r} {bytes} t key lt =
     go :
         (o : Outcome) →
         putIn (shapeOf m r) (wordsOf bytes) (split (shapeOf m r) key) ≡ o →
-        Puts (shapeOf m r) (wordsOf bytes) (entries (wordsOf bytes)) (split (shapeOf m r) key) o → Leaves-plain m r bytes key
+        Puts (shapeOf m r) (wordsOf bytes) (entries (wordsOf bytes)) (split (shapeOf m r) key) o →
+        Leaves-plain m r bytes key
     go o e (found k) = kept (says 1) e
     go o e (overflow k room) = kept (refuses 8) e
     go o e (inserted p k room added) =
@@ -440,11 +453,13 @@ puts-order {m} {r} {bytes} ks js t h k alike few =
     js-in x y = ks-in x (same-entries sh ks js (low-of (t .whole)) h k alike x ∙ y)
 
     first :
-        PlainTable m r (putAll m r bytes ks) × (wordsOf (putAll m r bytes ks) ≡ puts sh (wordsOf bytes) (entriesOf sh ks))
+        PlainTable m r (putAll m r bytes ks)
+        × (wordsOf (putAll m r bytes ks) ≡ puts sh (wordsOf bytes) (entriesOf sh ks))
     first = put-all-plain ks t h
 
     second :
-        PlainTable m r (putAll m r bytes js) × (wordsOf (putAll m r bytes js) ≡ puts sh (wordsOf bytes) (entriesOf sh js))
+        PlainTable m r (putAll m r bytes js)
+        × (wordsOf (putAll m r bytes js) ≡ puts sh (wordsOf bytes) (entriesOf sh js))
     second = put-all-plain js t k
 
     long : {bs : List ℕ} → PlainTable m r bs → length bs ≡ 2 * places sh
@@ -468,7 +483,12 @@ pub build-puts :
 unfolding zeros places
 build-puts m r bytes ks good h few =
     build-few m r bytes ks good h few
-    ∙ ap (leaves (says 0)) (sym same ∙ ap (λ (bs : List ℕ). putAll m r bs ks) (zero-bytes (places sh) ∙ ap (λ (n : ℕ). replicate n 0) (sym long)))
+    ∙ ap
+    (leaves (says 0))
+    (sym same
+    ∙ ap
+    (λ (bs : List ℕ). putAll m r bs ks)
+    (zero-bytes (places sh) ∙ ap (λ (n : ℕ). replicate n 0) (sym long)))
   where
     sh : Shape
     sh = shapeOf m r

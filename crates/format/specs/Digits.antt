@@ -1,5 +1,5 @@
 -- Hexadecimal digits (01, The frame program): either letter case is read, capitals are printed.
--- `worth`, `number`: what is read. `twoDigits`, `wordDigits`: what is printed.
+-- `worth`, `number`: what is read. `digitsOf`, `wordDigits`: what is printed.
 -- Assumes nothing.
 use Prim.Native.Nat.{ℕ, _+_, _*_, _-_, _/_, _%_}
 use mathlib.Core.Bool.{Bool, cond, _||_}
@@ -26,10 +26,6 @@ number cs = numberAfter 0 cs
 -- the capital digit of a number below 16
 unfoldable pub glyph : ℕ → ℕ
 glyph d = cond (leb d 9) (48 + d) (55 + d)
-
--- a byte as two digits
-unfoldable pub twoDigits : ℕ → List ℕ
-twoDigits n = glyph (n / 16) ∷ glyph (n % 16) ∷ []
 
 -- numbers of two digits each, no gaps
 unfoldable pub digitsOf : List ℕ → List ℕ

@@ -1,14 +1,13 @@
 -- One line's keys run through the tasks in rounds (01, The frame program): who takes a key, who steps, when a key is
 -- answered, and the limit of rounds.
 -- Assumes nothing.
-use Prim.Native.Nat.{ℕ, zero, suc, _+_, _*_}
+use Prim.Native.Nat.{ℕ, zero, suc, _+_, _*_, _^_}
 use mathlib.Core.Bool.{Bool, cond, _&&_}
 use mathlib.Core.List.{List}
 use lib.ListN.{length, getD, set, replicate}
 use lib.Dec.{ltb, eqb}
 use Rattle.rules.specs.declared.Task.{Task}
 use Rattle.rules.specs.Lists.{all}
-use Rattle.rules.specs.Shape.{shapeOf, places}
 use Rattle.rules.specs.Record.{atRest}
 use Rattle.rules.specs.Answer.{Leaves, leaves}
 use Rattle.rules.specs.Give.{noTask, taskAt, give}
@@ -85,10 +84,10 @@ unfoldable pub rounds : ℕ → ℕ → List ℕ → ℕ → Floor → Floor
 rounds m r ks zero f = f
 rounds m r ks (suc n) f = cond (allAnswered ks f) f (rounds m r ks n (round m r ks f))
 
--- n × (8 × (2^m + 2) + 66)
-unfoldable pub limit : ℕ → ℕ → ℕ → ℕ
-limit m r n = n * (8 * places (shapeOf m r) + 66)
+-- how many rounds a line of n keys may take
+unfoldable pub limit : ℕ → ℕ → ℕ
+limit m n = n * (8 * (2 ^ m + 2) + 66)
 
 -- a line's keys run through n tasks
 unfoldable pub play : ℕ → ℕ → ℕ → List ℕ → List ℕ → Floor
-play m r n bytes ks = rounds m r ks (limit m r (length ks)) (start bytes n ks)
+play m r n bytes ks = rounds m r ks (limit m (length ks)) (start bytes n ks)

@@ -16,12 +16,12 @@ use Rattle.rules.specs.declared.Done.{Done}
 use Rattle.rules.specs.declared.Done.the-variants as done
 use Rattle.rules.specs.Answer.{numberOfRefusal, doneSays}
 use Rattle.format.specs.declared.Run.{Run}
-use Rattle.format.specs.Frame as frame
-use Rattle.format.specs.Frame.{atFirst, among, ended, Day, After, printed, lineIn, atEnd}
-use Rattle.format.specs.Feed.{Lent, lent, runOf, dayOf, heldLine, atFront, refusal}
+use Rattle.format.specs.Frame.{Day, After, lineIn, atEnd}
+use Rattle.format.specs.Feed.{Lent, lent, dayOf, heldLine, atFront, refusal}
 use Rattle.format.specs.Feed.{Finishing, finishes, refusedToo, lastLine, finishGood, finish}
-use Rattle.pieces.specs.Limits.{Fit, line-fits, line-prints, end-prints}
-use Rattle.pieces.specs.Feeding.{Ready, accepted}
+use Rattle.pieces.specs.Limits.{Fit}
+use Rattle.pieces.specs.Feeding as feeding
+use Rattle.pieces.specs.Feeding.{Ready, accepted, run-day, last-fits, last-line-prints}
 use Rattle.closing.specs.declared.close.Closed.{Closed}
 use Rattle.frames.specs.Check.{refusalBy, refusal-by, some-number}
 use Rattle.closing.specs.Closing.{Shown, shown, printing, Closing, closed, closing, lastClosing}
@@ -46,17 +46,6 @@ record Last (x : Closing) (a : After) (was : List ℕ) : Type 0 where
   pub table : x .table ≡ a .day .table
   pub wrote : x .wrote ≡ length (a .prints)
   pub out : x .out ≡ atFront (a .prints) was
-  pub fit : Fit (a .day)
-  pub few : length (a .prints) ≤ 1025
-
-run-day : (d : Day) → dayOf (runOf (d .stage)) (d .table) ≡ d
-unfolding dayOf
-run-day d = go (d .stage) (d .table)
-  where
-    go : (s : frame.Stage) (table : List ℕ) → dayOf (runOf s) table ≡ record { stage = s; table = table }
-    go atFirst table = refl
-    go (among f) table = refl
-    go ended table = refl
 
 -- a text behind another, in the room that is left
 two-texts :
@@ -104,16 +93,8 @@ module _ (run : Run) (b : Lent) (ok : Ready run b) where
           (closing (lineIn day text) (b .out)))
           (cond none (record { day = day; prints = [] }) (lineIn day text))
           (b .out)
-      go true = record { day = refl; table = refl; wrote = refl; out = refl; fit = ok .day; few = omega arith }
-      go false =
-          record {
-            day = run-day (lineIn day text .day);
-            table = refl;
-            wrote = refl;
-            out = refl;
-            fit = line-fits day text (ok .day);
-            few = line-prints day text;
-          }
+      go true = record { day = refl; table = refl; wrote = refl; out = refl }
+      go false = record { day = run-day (lineIn day text .day); table = refl; wrote = refl; out = refl }
 
   -- ---- the table's line goes into the room behind
   module _ (c : Closed) (table out : List ℕ) (e : closed c table out ≡ lastClosing run b) where
@@ -127,13 +108,13 @@ module _ (run : Run) (b : Lent) (ok : Ready run b) where
         let whole = length-append prints (drop (length prints) (b .out)) in
         let rest = length-drop (length prints) (b .out) in
         let same = ap (λ (xs : List ℕ). length xs) (l .out) in
-        (omega (arith, l .wrote, l .few), omega (arith, same, whole, rest, ok .out))
+        (omega (arith, l .wrote, last-line-prints run b), omega (arith, same, whole, rest, ok .out))
 
     pub finish-inside : c .wrote ≤ length out
     finish-inside = omega (arith, room .0, room .1)
 
     pub finish-fits : Fit (dayOf (c .run) table)
-    finish-fits = subst Fit (sym (left .day)) (left .fit)
+    finish-fits = subst Fit (sym (left .day)) (last-fits run b ok)
 
     -- wherever the lent part begins in what was printed
     pub finish-room : (k : ℕ) → k ≤ c .wrote → 65545 ≤ length (take (length out - k) (drop k out))
@@ -147,7 +128,9 @@ module _ (run : Run) (b : Lent) (ok : Ready run b) where
         c .wrote + more ≤ 66570
     finish-wrote more part part₁ end =
         let count = ap (λ (x : Shown). x .wrote) end in
-        omega (arith, count, room .0, end-prints (dayOf (c .run) table) finish-fits)
+        let same = ap (λ (d : Day). length (atEnd d)) (left .day) in
+        let sum = length-append (lastLine run b .prints) (atEnd (lastLine run b .day)) in
+        omega (arith, count, same, sum, left .wrote, feeding.finish-room run b ok)
 
     pub finish-both :
         (more : ℕ) (part : List ℕ) →

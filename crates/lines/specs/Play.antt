@@ -1,5 +1,5 @@
 -- A line's keys run through idle tasks, as the code has them. `play-is`: sixteen idle places of which n sit are the
--- start that the format names. `line-played`, `line-refused` and on: the call for one line by its tests.
+-- start that the format names. `limit-fits`, `limit-is`: the limit of rounds as the code computes it.
 -- Assumes nothing.
 use Prim.Native.Nat.{ℕ, zero, suc, _+_, _*_, _≤_, _<_}
 use mathlib.Core.Path.{_≡_, refl, ap, ap₂, _∙_}
@@ -11,7 +11,7 @@ use lib.ListN.{length, take, drop, replicate, drop-of-length-le}
 use lib.Dec.{leb}
 use Rattle.rules.specs.declared.Shape.{Shape}
 use Rattle.rules.specs.Lists.{all}
-use Rattle.rules.specs.Shape.{shapeOf, homes, keys, places}
+use Rattle.rules.specs.Shape.{shapeOf, homes}
 use Rattle.words.specs.Range.{InRange}
 use Rattle.rules.specs.Give.{noTask}
 use Rattle.format.specs.Rounds.{Floor, start, allAnswered, rounds, limit, play}
@@ -56,7 +56,7 @@ module _ (m r n : ℕ) (few : n ≤ 16) (ks bytes : List ℕ) where
     where
       pub play-is :
           zeros ≡ replicate (length before) 0 ++ drop (length before) before →
-          sh ≡ shapeOf m r → most ≡ limit (sh .m) (sh .r) (length before) → idle ≡ idleDesk →
+          sh ≡ shapeOf m r → most ≡ limit (sh .m) (length before) → idle ≡ idleDesk →
           floorOf n table answers d ≡ rounds m r ks most (floorOf n bytes zeros idle) →
           b ≡ answeredAt n ks d → ran b table answers ≡ ranOf ks (play m r n bytes ks)
       unfolding play
@@ -66,7 +66,7 @@ module _ (m r n : ℕ) (few : n ≤ 16) (ks bytes : List ℕ) where
           (e
           ∙ ap₂ (λ (k : ℕ) (f : Floor). rounds m r ks k f) most-is (begun ∙ start-is))
         where
-          most-is : most ≡ limit m r (length ks)
+          most-is : most ≡ limit m (length ks)
           most-is = lim ∙ rw (shape, as-many)
 
           none-left : zeros ≡ replicate (length ks) 0
@@ -84,8 +84,8 @@ product-fits n x few small = omega (arith, mul-le-mul-right x few)
 pub limit-fits : (n h : ℕ) → n ≤ 512 → h ≤ 1048576 → n * (8 * (h + 2) + 66) < 18446744073709551616
 limit-fits n h few small = product-fits n (8 * (h + 2) + 66) few (omega arith)
 
-pub limit-is : (sh : Shape) (n h : ℕ) → h ≡ homes sh → n * (8 * (h + 2) + 66) ≡ limit (sh .m) (sh .r) n
-unfolding limit places
+pub limit-is : (sh : Shape) (n h : ℕ) → h ≡ homes sh → n * (8 * (h + 2) + 66) ≡ limit (sh .m) n
+unfolding limit homes
 limit-is sh n h e = rw e
 
 pub range-as : (sh : Shape) (m r : ℕ) → sh ≡ shapeOf m r → InRange (shapeOf m r) → InRange sh

@@ -11,7 +11,6 @@ use words::shape::shape_of;
 ghost use mathlib.Core.Path.{_≡_};
 ghost use mathlib.Core.Bool.{true};
 ghost use Prim.Native.Nat.{ℕ, _≤_};
-ghost use lib.ListN.{length};
 ghost use lib.Dec.{ltb};
 ghost use Rattle.rules.specs.Lists.{all};
 ghost use Rattle.rules.specs.Shape.{shapeOf, keys as keys-of};

@@ -13,7 +13,6 @@ ghost use Prim.Native.Nat.{_≤_};
 ghost use lib.ListN.{length};
 ghost use Rattle.rules.specs.Lists.{all};
 ghost use Rattle.rules.specs.Shape.{shapeOf};
-ghost use Rattle.rules.specs.Give.{noTask};
 ghost use Rattle.format.specs.Digits.{isDigit};
 ghost use Rattle.format.specs.Lines.{keysOf};
 ghost use Rattle.format.specs.Rounds as spec;
@@ -23,7 +22,7 @@ ghost use Rattle.lines.specs.Play.{idleDesk, ran, ranOf};
 // How many rounds a line of n keys may take.
 fn limit(sh: Shape, n: usize) -> u64
     requires { ⌜ InRange sh ⌝ ∗ ⌜ n ≤ 512 ⌝ }
-    ensures { λ x. ⌜ x ≡ spec.limit (sh .m) (sh .r) n ⌝ }
+    ensures { λ x. ⌜ x ≡ spec.limit (sh .m) n ⌝ }
 {
     (n as u64) * (8 * (homes(sh) as u64 + 2) + 66)
 }

@@ -20,8 +20,8 @@ use Rattle.rules.specs.Listing.{atFront}
 use Rattle.words.specs.Range.{InRange, remainders-high}
 use Rattle.words.specs.Split.{InShape}
 use Rattle.words.specs.Layout.{words-length}
-use Rattle.theory.specs.Perm.{All}
-use Rattle.theory.specs.Perm as perm
+use Rattle.theory.specs.Every.{All}
+use Rattle.theory.specs.Every as every
 use Rattle.theory.specs.Seen.{Table}
 use Rattle.theory.specs.SoundTable.{sound-is-table}
 use Rattle.theory.specs.Keys.{table-inside, asc-in-shape}
@@ -32,9 +32,9 @@ use Rattle.listing.specs.Scan.{whole-table, occupiedFrom, word-inside, n
 -- what holds of all holds of the k-th
 all-getD :
     {A : Type 0} {P : A → Type 0} {xs : List A} (k : ℕ) (d : A) → All P xs → k < length xs → P (getD xs k d)
-all-getD k d perm.none lt = absurd (omega arith)
-all-getD zero d (perm.both p ps) lt = p
-all-getD (suc k) d (perm.both p ps) lt = all-getD k d ps (omega arith)
+all-getD k d every.none lt = absurd (omega arith)
+all-getD zero d (every.both p ps) lt = p
+all-getD (suc k) d (every.both p ps) lt = all-getD k d ps (omega arith)
 
 -- the next of some keys written after the first k
 front-step :

@@ -123,7 +123,7 @@ run-held atFirst = refl
 run-held (among f) = refl
 run-held ended = refl
 
-run-day : (d : Day) → dayOf (runOf (d .stage)) (d .table) ≡ d
+pub run-day : (d : Day) → dayOf (runOf (d .stage)) (d .table) ≡ d
 unfolding dayOf
 run-day d = go (d .stage) (d .table)
   where
@@ -256,7 +256,7 @@ feed-prints l run piece at b s = rw (not-refused run b (s .ready)) (fed-good l r
 
 -- ---- the end
 -- what a last line that lacks its line feed makes of the day, and what is printed then: it fits the room for it
-last-fits : (run : Run) (b : Lent) → Ready run b → Fit (lastLine run b .day)
+pub last-fits : (run : Run) (b : Lent) → Ready run b → Fit (lastLine run b .day)
 unfolding lastLine
 last-fits run b ok = go (eqb (run .held) 0)
   where
@@ -269,7 +269,7 @@ last-fits run b ok = go (eqb (run .held) 0)
     go true = ok .day
     go false = line-fits (today run b) (heldLine (run .held) (b .line)) (ok .day)
 
-last-line-prints : (run : Run) (b : Lent) → length (lastLine run b .prints) ≤ 1025
+pub last-line-prints : (run : Run) (b : Lent) → length (lastLine run b .prints) ≤ 1025
 unfolding lastLine
 last-line-prints run b = go (eqb (run .held) 0)
   where

@@ -1,7 +1,7 @@
 -- What is printed fits the room for it: a line prints at most 1,025 bytes (`line-prints`), the end at most 65,545
 -- (`end-prints`). A day that is fit stays fit (`Fit`, `line-fits`): its table's length, and what its first line said.
 -- Assumes nothing.
-use Prim.Native.Nat.{ℕ, zero, suc, _+_, _*_, _/_, _%_, _^_, _≤_}
+use Prim.Native.Nat.{ℕ, zero, suc, _+_, _/_, _%_, _^_, _≤_}
 use mathlib.Core.Path.{_≡_, refl, ap}
 use mathlib.Core.Bool.{Bool, true, false, cond, _&&_, and-eq-true-iff}
 use mathlib.Core.List.{List, [], _∷_}

@@ -1,5 +1,5 @@
 -- How long things stay: a step keeps the table's length and the number of tasks, and so does a line's play, which has
--- an answer for each key (`step-size`, `play-sizes`).
+-- an answer for each key (`step-bytes`, `step-tasks`, `play-sizes`).
 -- Assumes nothing.
 use Prim.Native.Nat.{ℕ, zero, suc, _*_, _-_}
 use mathlib.Core.Path.{_≡_, refl, sym, ap, _∙_}
@@ -282,7 +282,7 @@ module _ (m r : ℕ) (ks : List ℕ) where
 
 pub play-sizes : (m r n : ℕ) (bytes ks : List ℕ) → Sizes (start bytes n ks) (play m r n bytes ks)
 unfolding play
-play-sizes m r n bytes ks = rounds-sizes m r ks (limit m r (length ks)) (start bytes n ks)
+play-sizes m r n bytes ks = rounds-sizes m r ks (limit m (length ks)) (start bytes n ks)
 
 -- the table as long as it was, and an answer for each key
 pub play-table : (m r n : ℕ) (bytes ks : List ℕ) → length (play m r n bytes ks .table) ≡ length bytes

@@ -1,6 +1,6 @@
 -- Laws of a line's length. The search for its end: a line feed is met, another byte is passed, the bytes are over
--- (`line-met`, `line-passed`, `line-over`). The end itself: it is inside the bytes (`line-inside`, `end-inside`,
--- `end-below`), a line feed follows or not (`end-met`), and the line stands before it (`line-is`). Assumes nothing.
+-- (`line-met`, `line-passed`, `line-over`). The end itself: it is inside the bytes (`line-inside`, `end-below`), a
+-- line feed follows or not (`end-met`), and the line stands before it (`line-is`). Assumes nothing.
 use Prim.Native.Nat.{ℕ, suc, _+_, _-_, _≤_, _<_}
 use mathlib.Core.Path.{_≡_, refl, sym}
 use mathlib.Core.Bool.{Bool, true, false, cond}
@@ -40,9 +40,6 @@ line-inside (b ∷ xs) = go (eqb b 10) (line-inside xs)
 
 -- of the line at a place, with its end as a number that the code has
 module _ (xs : List ℕ) (at e : ℕ) (ends : e ≡ at + lineLength (drop at xs)) where
-  pub end-inside : at ≤ length xs → e ≤ length xs
-  end-inside inside = omega (arith, line-inside (drop at xs), length-drop at xs)
-
   -- beyond the end there is no byte, and the line ends where it begins
   pub end-below : (k : ℕ) → at < k → length xs < k → e < k
   end-below k low short = omega (arith, line-inside (drop at xs), length-drop at xs)

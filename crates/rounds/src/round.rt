@@ -6,7 +6,7 @@ use rules::Task;
 ghost use mathlib.Core.Path.{_≡_};
 ghost use mathlib.Core.Bool.{true};
 ghost use Prim.Native.Nat.{_≤_};
-ghost use lib.ListN.{length, take};
+ghost use lib.ListN.{take};
 ghost use Rattle.rules.specs.Lists.{all};
 ghost use Rattle.rules.specs.Record.{atRest};
 ghost use Rattle.format.specs.Digits.{isDigit};

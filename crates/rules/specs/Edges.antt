@@ -4,7 +4,6 @@
 use Prim.Native.Nat.{ℕ, zero, suc}
 use mathlib.Core.Path.{_≡_, refl}
 use mathlib.Core.List.{List, [], _∷_, map}
-use lib.ListN.{replicate}
 use Rattle.rules.specs.declared.Task.{Task}
 use Rattle.rules.specs.Lists.{count, all, any}
 use Rattle.rules.specs.Word.{wordOf, numberOf, isVoid, isZero, isLock}

@@ -24,7 +24,7 @@ use Rattle.rules.specs.Answer.{Leaves, leaves, numberOfRefusal, putSays}
 use Rattle.rules.specs.Put.{Outcome, putIn, wordsAfter}
 use Rattle.rules.specs.Build.{zeros, puts, tooMany}
 use Rattle.theory.specs.Dealt.{or-left, or-right}
-use Rattle.theory.specs.Perm.{All, none, both}
+use Rattle.theory.specs.Every.{All, none, both}
 use Rattle.theory.specs.Insert.{Within, ascend-asc, holds-ascend, holds-insert, holds-head, same-eq, same-refl}
 use Rattle.theory.specs.Order.{taken-homes}
 use Rattle.theory.specs.Gaps.{HomePlace}

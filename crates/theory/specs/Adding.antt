@@ -17,7 +17,7 @@ use Rattle.rules.specs.Table.{occupied, locked}
 use Rattle.rules.specs.Lay.{holds, insert}
 use Rattle.rules.specs.Put.{layRun}
 use Rattle.theory.specs.Run.{Asc, none, Run}
-use Rattle.theory.specs.Perm as perm
+use Rattle.theory.specs.Every as every
 use Rattle.theory.specs.Insert.{asc-weaken, asc-below, insert-asc, insert-length, insert-front, insert-back}
 use Rattle.theory.specs.Joined.{map-append, run-append}
 use Rattle.theory.specs.Seen.{Right, right-end, right-more, Left, left-start, left-more, Table, whole, left-asc}
@@ -118,7 +118,7 @@ pub insert-between :
     Asc d n b xs →
     n ≤ e .home → e .home < m → Asc d c (m * 4096) zs → insert e (xs ++ (ys ++ zs)) ≡ xs ++ (insert e ys ++ zs)
 insert-between n m e {xs} ys {zs} s low up first last down =
-    insert-back e (ys ++ zs) (omega arith) (perm.all-map (λ f lt. omega arith) (asc-below s up))
+    insert-back e (ys ++ zs) (omega arith) (every.all-map (λ f lt. omega arith) (asc-below s up))
     ∙ ap (λ (es : List Entry). xs ++ es) (insert-front e ys s down (omega arith))
 
 -- ---- what adding gives
@@ -139,7 +139,8 @@ or-parts false b e = (refl, e)
 
 -- a stretch replaced by laid words is unlocked where the rest was
 replaced-free :
-    (u mid v : List Word) (l : List Word) → locked l ≡ false → locked (u ++ (mid ++ v)) ≡ false → locked (u ++ (l ++ v)) ≡ false
+    (u mid v : List Word) (l : List Word) → locked l ≡ false → locked (u ++ (mid ++ v)) ≡ false →
+    locked (u ++ (l ++ v)) ≡ false
 replaced-free u mid v l here free =
     locked-append u (l ++ v)
     ∙ ap₂ _||_ (outer .0) (locked-append l v ∙ ap₂ _||_ here (inner .1))
@@ -194,7 +195,17 @@ add-home {d} {ws} {es} e t s low some more =
           (append-assoc (t .u) l (t .v))
           (append-assoc (t .xs) (e ∷ []) (t .ys)
           ∙ sym (ap (insert e) (t .shown)
-          ∙ insert-between (length (t .u)) (suc (length (t .u))) e [] s low (left-asc s (t .left)) at-home at-home′ (right-asc s (t .right))))
+          ∙ insert-between
+          (length (t .u))
+          (suc (length (t .u)))
+          e
+          []
+          s
+          low
+          (left-asc s (t .left))
+          at-home
+          at-home′
+          (right-asc s (t .right))))
           (seam
           s
           (left-join l (e ∷ []) s (t .left) some refl here)
@@ -202,7 +213,14 @@ add-home {d} {ws} {es} e t s low some more =
           (omega (arith, long, here .size))
           (t .right)
           more);
-      free = λ u. replaced-free (t .u) (t .g ∷ []) (t .v) l (lay-run-free (length (t .u)) (e ∷ [])) (sym (ap locked (t .words)) ∙ u);
+      free = λ u.
+          replaced-free
+          (t .u)
+          (t .g ∷ [])
+          (t .v)
+          l
+          (lay-run-free (length (t .u)) (e ∷ []))
+          (sym (ap locked (t .words)) ∙ u);
       places =
           occupied-append (t .u) (l ++ t .v)
           ∙ ap
@@ -337,7 +355,12 @@ module _ {d : ℕ} {ws : List Word} {es : List Entry} (e : Entry) (t : InRun d w
               (t .v)
               l
               (lay-run-free (suc (length (t .u))) (insert e (t .ys)))
-              (ap locked (append-assoc (t .u) (t .g ∷ []) _ ∙ ap (λ (vs : List Word). t .u ++ (t .g ∷ vs)) (append-assoc (t .run) (t .h ∷ []) (t .v))) ∙ sym (ap locked (t .words)) ∙ u));
+              (ap
+              locked
+              (append-assoc (t .u) (t .g ∷ []) _
+              ∙ ap (λ (vs : List Word). t .u ++ (t .g ∷ vs)) (append-assoc (t .run) (t .h ∷ []) (t .v)))
+              ∙ sym (ap locked (t .words))
+              ∙ u));
           places =
               occupied-append (t .u) (t .g ∷ (l ++ t .v))
               ∙ ap

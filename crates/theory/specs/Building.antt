@@ -1,4 +1,4 @@
--- Puts one by one: their order and their repeats do not matter, as long as there is room for all (`puts-same`), and
+-- Puts one by one: their order and their repeats do not matter, as long as there is room for all (`puts-ascend`), and
 -- what they leave (`puts-state`). Its heart: on tables with room, putting two keys commutes (`put-swap`) and putting
 -- one twice is putting it once.
 -- Assumes nothing.
@@ -41,7 +41,8 @@ Inside es us = (x : Entry) → holds x es ≡ true → holds x us ≡ true
 
 -- what is held behind the first entry comes after it
 held-behind :
-    {d c : ℕ} (e : Entry) {es : List Entry} (x : Entry) → Asc d c (suc (code e)) es → holds x es ≡ true → code e < code x
+    {d c : ℕ} (e : Entry) {es : List Entry} (x : Entry) → Asc d c (suc (code e)) es → holds x es ≡ true →
+    code e < code x
 held-behind e x up h = held-all x (asc-all up) h .above
 
 -- an entry among some that is not the first is among the rest
@@ -84,7 +85,9 @@ subset-step {d} {c} {b} u us es s low up (next {e = e} {es = fs} p q r more) ins
         omega arith
       where
         apart : code u < code e → (x : Entry) → holds x (e ∷ fs) ≡ true → sameEntry x u ≡ false
-        apart l x h = same-not x u (λ (k : code x ≡ code u). omega (arith, held-all x (asc-all (next {b = code e} (le-refl _) q r more)) h .above))
+        apart l x h =
+            let w = held-all x (asc-all (next {b = code e} (le-refl _) q r more)) h in
+            same-not x u (λ (k : code x ≡ code u). omega (arith, w .above))
 
 pub subset-length :
     {d c c′ b′ : ℕ} (us : List Entry) →
@@ -280,7 +283,8 @@ module _ {sh : Shape} {us : List Entry} (u : Roomy sh us) where
       holds f us ≡ true →
       holds e es ≡ false →
       holds f es ≡ false →
-      sameEntry e f ≡ false → sameEntry f e ≡ false → after-put sh (after-put sh ws e) f ≡ after-put sh (after-put sh ws f) e
+      sameEntry e f ≡ false → sameEntry f e ≡ false →
+      after-put sh (after-put sh ws e) f ≡ after-put sh (after-put sh ws f) e
   put-new {ws} {es} e f t inside e-in f-in e-new f-new apart apart′ =
       state-unique
       (u .low)
@@ -303,7 +307,10 @@ module _ {sh : Shape} {us : List Entry} (u : Roomy sh us) where
       ∙ fills-commute (table-guarded sh (t .size) (t .table)) (in-home e u e-in) (in-home f u f-in)
       ∙ sym
       (fe .places
-      ∙ ap₂ (λ (os : List Bool) (b : Bool). filledFor sh os e b) (pf .places ∙ ap (filledFor sh (occupied ws) f) f-new) (holds-insert e f es ∙ ap₂ _||_ apart e-new)))
+      ∙ ap₂
+      (λ (os : List Bool) (b : Bool). filledFor sh os e b)
+      (pf .places ∙ ap (filledFor sh (occupied ws) f) f-new)
+      (holds-insert e f es ∙ ap₂ _||_ apart e-new)))
     where
       pe : Put sh ws es e (after-put sh ws e)
       pe = put-room e u t inside e-in
@@ -326,12 +333,6 @@ module _ {sh : Shape} {us : List Entry} (u : Roomy sh us) where
       holds f us ≡ true → after-put sh (after-put sh ws e) f ≡ after-put sh (after-put sh ws f) e
   put-swap {ws} {es} e f t inside e-in f-in = go (holds e es) (holds f es) (sameEntry e f) refl refl refl
     where
-      pe : Put sh ws es e (after-put sh ws e)
-      pe = put-room e u t inside e-in
-
-      pf : Put sh ws es f (after-put sh ws f)
-      pf = put-room f u t inside f-in
-
       -- one of them is there already
       held :
           (e f : Entry) →
@@ -465,5 +466,8 @@ module _ {sh : Shape} {us : List Entry} (u : Roomy sh us) where
             shown = l .shown;
             state = l .state;
             inside = l .inside;
-            held = λ x. l .held x ∙ ap (λ (b : Bool). b || holds x ks) (holds-insert x k es) ∙ regroup (sameEntry x k) (holds x es) (holds x ks);
+            held = λ x.
+                l .held x
+                ∙ ap (λ (b : Bool). b || holds x ks) (holds-insert x k es)
+                ∙ regroup (sameEntry x k) (holds x es) (holds x ks);
           }

@@ -56,7 +56,8 @@ pub data Dealt (d : ℕ) : List ℕ → List Word → List Entry → Type 0 wher
   dealt-ends :
       {h : ℕ} {hs : List ℕ} {w : Word} {ws : List Word} {e : Entry} {es : List Entry} →
       w .change ≡ true →
-      w .remainder < d → e .home ≡ h → e .remainder ≡ w .remainder → Dealt d hs ws es → Dealt d (h ∷ hs) (w ∷ ws) (e ∷ es)
+      w .remainder < d → e .home ≡ h → e .remainder ≡ w .remainder → Dealt d hs ws es →
+      Dealt d (h ∷ hs) (w ∷ ws) (e ∷ es)
   -- a word with the next of its group after it
   dealt-goes :
       {h : ℕ} {hs : List ℕ} {w v : Word} {ws : List Word} {e f : Entry} {es : List Entry} →
@@ -100,7 +101,8 @@ dealt-step d h hs w v ws low rise n rest = go (w .change) refl
 pub dealt :
     (d : ℕ) (ws : List Word) →
     endsInChange ws ≡ true →
-    all (isLow d) ws ≡ true → rising ws ≡ true → (hs : List ℕ) → length hs ≡ count isChange ws → Dealt d hs ws (deal hs ws)
+    all (isLow d) ws ≡ true → rising ws ≡ true → (hs : List ℕ) → length hs ≡ count isChange ws →
+    Dealt d hs ws (deal hs ws)
 unfolding endsInChange all rising count deal
 dealt d [] ends low rise [] n = dealt-none
 dealt d [] ends low rise (h ∷ hs) n = absurd (omega arith)

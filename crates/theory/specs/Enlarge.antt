@@ -17,8 +17,8 @@ use Rattle.rules.specs.Lay.{hasHome}
 use Rattle.rules.specs.Put.{layRun}
 use Rattle.rules.specs.Phase.{marked}
 use Rattle.theory.specs.Run.{Run, unlock}
-use Rattle.theory.specs.Perm as perm
-use Rattle.theory.specs.Perm.{All, all-map}
+use Rattle.theory.specs.Every as every
+use Rattle.theory.specs.Every.{All, all-map}
 use Rattle.theory.specs.Insert.{asc-all}
 use Rattle.theory.specs.Motion.{fillAt, moves, distance, finish}
 use Rattle.theory.specs.Region.{fillAt-unlock, finish-unlock}
@@ -44,8 +44,8 @@ sites-beside right v a (suc n) h =
 
 home-outside : {es : List Entry} (q : ℕ) → All (λ (f : Entry). f .home ≡ q → ⊥) es → hasHome es q ≡ false
 unfolding hasHome any
-home-outside q perm.none = refl
-home-outside q (perm.both {x = f} h hs) = rw (ne-eqb (f .home) q h, home-outside q hs)
+home-outside q every.none = refl
+home-outside q (every.both {x = f} h hs) = rw (ne-eqb (f .home) q h, home-outside q hs)
 
 -- no entry of the run has its home at the filled place
 not-home :

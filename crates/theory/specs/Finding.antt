@@ -67,7 +67,8 @@ gap-surroundings :
     (sh : Shape) {ws : List Word} {es : List Entry} (e : Entry) →
     remainders sh ≤ 4096 →
     e .remainder < remainders sh →
-    guardsVoid sh ws ≡ true → at ws 0 .occupied ≡ false → AtGap (remainders sh) ws es (e .home) → Surroundings sh ws es e
+    guardsVoid sh ws ≡ true → at ws 0 .occupied ≡ false → AtGap (remainders sh) ws es (e .home) →
+    Surroundings sh ws es e
 unfolding holds any
 gap-surroundings sh {ws} {es} e s low guards free t =
     record {
@@ -118,7 +119,8 @@ run-surroundings :
     (sh : Shape) {ws : List Word} {es : List Entry} (e : Entry) →
     remainders sh ≤ 4096 →
     e .remainder < remainders sh →
-    guardsVoid sh ws ≡ true → at ws 0 .occupied ≡ false → InRun (remainders sh) ws es (e .home) → Surroundings sh ws es e
+    guardsVoid sh ws ≡ true → at ws 0 .occupied ≡ false → InRun (remainders sh) ws es (e .home) →
+    Surroundings sh ws es e
 run-surroundings sh {ws} {es} e s low guards free t =
     record {
       sound =

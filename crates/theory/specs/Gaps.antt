@@ -377,11 +377,6 @@ full-chosen s {sh} {os} {h} g k t = none (t h k) (at-guard s) (at-guard (other s
 pub room-chosen : (sh : Shape) (os : List Bool) (h : ℕ) → Chosen left sh os h (roomFor sh os h)
 room-chosen sh os h = rw room-left (chosen left sh os h)
 
-pub room-nearest :
-    {sh : Shape} {os : List Bool} {h : ℕ} (p : ℕ) → Guarded sh os → HomePlace sh h → roomFor sh os h ≡ place p →
-    Nearest sh os h p
-room-nearest {sh} {os} {h} p g k e = chosen-nearest g k (rw e at (room-chosen sh os h))
-
 pub room-full :
     {sh : Shape} {os : List Bool} (h : ℕ) → Guarded sh os → roomFor sh os h ≡ full → AllTaken sh os
 room-full {sh} {os} h g e = chosen-full g (rw e at (room-chosen sh os h))

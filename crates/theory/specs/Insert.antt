@@ -17,8 +17,8 @@ use Rattle.rules.specs.Entry.{Entry, sameHome, sameEntry, precedes}
 use Rattle.rules.specs.Lay.{holds, insert, ascend}
 use Rattle.rules.specs.Phase.{smaller}
 use Rattle.theory.specs.Run.{code, Asc, none, next}
-use Rattle.theory.specs.Perm as perm
-use Rattle.theory.specs.Perm.{All, Perm, all-map, all-perm, any-perm, or-swap}
+use Rattle.theory.specs.Every as every
+use Rattle.theory.specs.Every.{All, all-map}
 
 -- ---- the order of two entries
 
@@ -43,13 +43,6 @@ precedes-above e f x h = go (eqb (e .home) (f .home)) refl
     go : (b : Bool) → eqb (e .home) (f .home) ≡ b → precedes e f ≡ false
     go true p = rw (low, p, le-ltb (e .remainder) (f .remainder) (omega (arith, eqb-true)))
     go false p = rw (low, p)
-
-pub precedes-code : (e f : Entry) → e .remainder < 4096 → precedes e f ≡ true → code e < code f
-precedes-code e f x h = go (ltb (code e) (code f)) refl
-  where
-    go : (b : Bool) → ltb (code e) (code f) ≡ b → code e < code f
-    go true p = ltb-true (code e) (code f) p
-    go false p = absurd (true≢false (sym h ∙ precedes-above e f x (ltb-false (code e) (code f) p)))
 
 -- `sameEntry` is equality
 pub same-refl : (e : Entry) → sameEntry e e ≡ true
@@ -113,9 +106,9 @@ pub record Within (d c b : ℕ) (e : Entry) : Type 0 where
   pub inside : e .home < c
 
 pub asc-all : {d c b : ℕ} {es : List Entry} → Asc d c b es → All (Within d c b) es
-asc-all none = perm.none
+asc-all none = every.none
 asc-all (next p q r s) =
-    perm.both
+    every.both
     (record { above = p; low = q; inside = r })
     (all-map (λ f w. record { above = omega arith; low = w .low; inside = w .inside }) (asc-all s))
 
@@ -127,8 +120,8 @@ asc-weaken h k (next {e = e} p q r s) = next (le-trans h p) q (le-trans r k) (as
 -- what all of a list have, an entry that it holds has
 pub held-all : {P : Entry → Type 0} {es : List Entry} (e : Entry) → All P es → holds e es ≡ true → P e
 unfolding holds any
-held-all e perm.none h = absurd (false≢true h)
-held-all {P} e (perm.both {x = f} {xs = es} p ps) h = go (sameEntry e f) refl h (held-all e ps)
+held-all e every.none h = absurd (false≢true h)
+held-all {P} e (every.both {x = f} {xs = es} p ps) h = go (sameEntry e f) refl h (held-all e ps)
   where
     go : (b : Bool) → sameEntry e f ≡ b → (b || holds e es) ≡ true → (holds e es ≡ true → P e) → P e
     go true s t rest = subst P (sym (same-eq e f s)) p
@@ -210,6 +203,12 @@ insert-length e (f ∷ es) h = go (precedes e f) (sameEntry e f) refl refl h (in
     go false true p q t rest = absurd (true≢false t)
     go false false p q t rest = rw (p, q) (ap suc (rest t))
 
+pub or-swap : (a b c : Bool) → (a || (b || c)) ≡ (b || (a || c))
+or-swap true true c = refl
+or-swap true false c = refl
+or-swap false true c = refl
+or-swap false false c = refl
+
 or-twice : (a b : Bool) → (a || b) ≡ (a || (a || b))
 or-twice true b = refl
 or-twice false b = refl
@@ -255,17 +254,13 @@ insert-comm {es} e f low v w s =
 
 pub ascend-asc : {d c b : ℕ} {es : List Entry} → d ≤ 4096 → All (Within d c b) es → Asc d c b (ascend es)
 unfolding ascend
-ascend-asc low perm.none = none
-ascend-asc low (perm.both {x = e} w ws) = insert-asc e low w (ascend-asc low ws)
+ascend-asc low every.none = none
+ascend-asc low (every.both {x = e} w ws) = insert-asc e low w (ascend-asc low ws)
 
 pub holds-ascend : (e : Entry) (es : List Entry) → holds e (ascend es) ≡ holds e es
 unfolding ascend holds any
 holds-ascend e [] = refl
 holds-ascend e (f ∷ es) = holds-insert e f (ascend es) ∙ ap (λ (b : Bool). sameEntry e f || b) (holds-ascend e es)
-
--- what is ascending stays as it is
-pub ascend-ascending : {d c b : ℕ} {es : List Entry} → d ≤ 4096 → Asc d c b es → ascend es ≡ es
-ascend-ascending {es} low s = asc-unique low (ascend-asc low (asc-all s)) s (λ x. holds-ascend x es)
 
 -- the order of the entries does not matter, nor do repeats: only what they hold
 pub ascend-same :
@@ -273,11 +268,6 @@ pub ascend-same :
     ((x : Entry) → holds x es ≡ holds x fs) → ascend es ≡ ascend fs
 ascend-same {es} {fs} low v w h =
     asc-unique low (ascend-asc low v) (ascend-asc low w) (λ x. holds-ascend x es ∙ h x ∙ sym (holds-ascend x fs))
-
-pub ascend-perm :
-    {d c b : ℕ} {es fs : List Entry} → d ≤ 4096 → All (Within d c b) es → Perm es fs → ascend es ≡ ascend fs
-unfolding holds
-ascend-perm low w r = ascend-same low w (all-perm r w) (λ x. any-perm (sameEntry x) r)
 
 -- ---- ascending lists one after the other
 
@@ -291,29 +281,8 @@ asc-below low s = all-map (λ f w. omega (arith, w .low, w .inside)) (asc-all s)
 
 pub asc-append :
     {d c b b′ : ℕ} {xs ys : List Entry} → b ≤ b′ → Asc d c b xs → Below b′ xs → Asc d c b′ ys → Asc d c b (xs ++ ys)
-asc-append h none perm.none t = asc-weaken h (le-refl _) t
-asc-append h (next p q r s) (perm.both k ks) t = next p q r (asc-append k s ks t)
-
--- and the parts of an ascending list
-pub asc-front : {d c b : ℕ} (xs ys : List Entry) → Asc d c b (xs ++ ys) → Asc d c b xs
-asc-front [] ys s = none
-asc-front (e ∷ xs) ys (next p q r s) = next p q r (asc-front xs ys s)
-
-pub asc-back : {d c b : ℕ} (xs ys : List Entry) → Asc d c b (xs ++ ys) → Asc d c b ys
-asc-back [] ys s = s
-asc-back (e ∷ xs) ys (next p q r s) = asc-weaken (omega arith) (le-refl _) (asc-back xs ys s)
-
-pub asc-head : {d c b : ℕ} {e : Entry} {es : List Entry} → Asc d c b (e ∷ es) → Within d c b e
-asc-head (next p q r s) = record { above = p; low = q; inside = r }
-
-pub asc-tail : {d c b : ℕ} {e : Entry} {es : List Entry} → Asc d c b (e ∷ es) → Asc d c (suc (code e)) es
-asc-tail (next p q r s) = s
-
--- what stands before an entry is below it
-pub asc-before :
-    {d c b : ℕ} (xs : List Entry) (e : Entry) (ys : List Entry) → Asc d c b (xs ++ e ∷ ys) → Below (code e) xs
-asc-before [] e ys s = perm.none
-asc-before (f ∷ xs) e ys (next p q r s) = perm.both (asc-head (asc-back xs (e ∷ ys) s) .above) (asc-before xs e ys s)
+asc-append h none every.none t = asc-weaken h (le-refl _) t
+asc-append h (next p q r s) (every.both k ks) t = next p q r (asc-append k s ks t)
 
 -- an entry below all of the back is inserted into the front, one above all of the front into the back
 pub insert-front :
@@ -335,8 +304,8 @@ pub insert-back :
     {xs : List Entry} (e : Entry) (ys : List Entry) → e .remainder < 4096 → Below (code e) xs →
     insert e (xs ++ ys) ≡ xs ++ insert e ys
 unfolding insert
-insert-back e ys x perm.none = refl
-insert-back e ys x (perm.both {x = f} {xs = xs} h hs) =
+insert-back e ys x every.none = refl
+insert-back e ys x (every.both {x = f} {xs = xs} h hs) =
     rw
     (precedes-above e f x (omega arith), same-not e f (omega arith))
     (ap (λ (zs : List Entry). f ∷ zs) (insert-back e ys x hs))
@@ -369,8 +338,8 @@ inserted e low x none h =
       back = [];
       parts = refl;
       joined = refl;
-      below = perm.none;
-      above = perm.none;
+      below = every.none;
+      above = every.none;
       rank = refl;
     }
 inserted e low x (next {e = f} {es = es} p q r s) h =
@@ -385,8 +354,8 @@ inserted e low x (next {e = f} {es = es} p q r s) h =
           back = f ∷ es;
           parts = refl;
           joined = rw t;
-          below = perm.none;
-          above = perm.both l (all-map (λ g w. omega (arith, w .above)) (asc-all s));
+          below = every.none;
+          above = every.both l (all-map (λ g w. omega (arith, w .above)) (asc-all s));
           rank = smaller-none e low (next l q r s) (le-refl (suc (code e)));
         }
     go (same l t u) true v k rest = absurd (true≢false k)
@@ -399,7 +368,7 @@ inserted e low x (next {e = f} {es = es} p q r s) h =
           back = i .back;
           parts = ap (λ (zs : List Entry). f ∷ zs) (i .parts);
           joined = rw (t, u) (ap (λ (zs : List Entry). f ∷ zs) (i .joined));
-          below = perm.both l (i .below);
+          below = every.both l (i .below);
           above = i .above;
           rank = rw (precedes-below f e (omega arith) l) (omega (arith, i .rank));
         }

@@ -18,8 +18,8 @@ use Rattle.rules.specs.Shape.{homes, remainders, keys, places, rightGuard}
 use Rattle.rules.specs.Lay.{holds}
 use Rattle.words.specs.Split.{InShape, split-join, join-split, join-below}
 use Rattle.theory.specs.Run.{code, Asc, none, next}
-use Rattle.theory.specs.Perm as perm
-use Rattle.theory.specs.Perm.{All}
+use Rattle.theory.specs.Every as every
+use Rattle.theory.specs.Every.{All}
 use Rattle.theory.specs.Insert.{Within, asc-all, asc-weaken, asc-append, asc-below, same-eq, same-refl}
 use Rattle.theory.specs.Seen.{Right, right-end, right-more, Table, table}
 
@@ -57,7 +57,7 @@ within-in-shape sh e s w =
 pub asc-in-shape :
     (sh : Shape) {es : List Entry} →
     remainders sh ≤ 4096 → Asc (remainders sh) (rightGuard sh) 4096 es → All (InShape sh) es
-asc-in-shape sh s up = perm.all-map (λ e w. within-in-shape sh e s w) (asc-all up)
+asc-in-shape sh s up = every.all-map (λ e w. within-in-shape sh e s w) (asc-all up)
 
 -- ---- keys
 -- strictly ascending numbers, from b on and below c
@@ -93,7 +93,7 @@ pub keys-ascend :
     All (InShape sh) es →
     ((e : Entry) → InShape sh e → b ≤ code e → k ≤ join sh e) → Ascending (keys sh) k (map (join sh) es)
 keys-ascend sh k s none all-in first = ascending-none
-keys-ascend sh k s (next {e = e} p q r up) (perm.both i is) first =
+keys-ascend sh k s (next {e = e} p q r up) (every.both i is) first =
     ascending-next
     (first e i p)
     (join-below sh e i)
@@ -108,8 +108,8 @@ pub listed-holds :
     (sh : Shape) (key : ℕ) {es : List Entry} →
     key < keys sh → All (InShape sh) es → listed key (map (join sh) es) ≡ holds (split sh key) es
 unfolding listed holds any
-listed-holds sh key lt perm.none = refl
-listed-holds sh key lt (perm.both {x = e} i is) =
+listed-holds sh key lt every.none = refl
+listed-holds sh key lt (every.both {x = e} i is) =
     ap₂ _||_ (go (sameEntry (split sh key) e) refl) (listed-holds sh key lt is)
   where
     go : (b : Bool) → sameEntry (split sh key) e ≡ b → eqb key (join sh e) ≡ sameEntry (split sh key) e

@@ -15,7 +15,7 @@ use Rattle.rules.specs.Entry.{Entry, sameHome}
 use Rattle.rules.specs.Lay.{hasHome, endsGroup, lay}
 use Rattle.rules.specs.Put.{layRun}
 use Rattle.rules.specs.Phase.{setChange, setVirgin, marked}
-use Rattle.theory.specs.Perm.{or-swap}
+use Rattle.theory.specs.Insert.{or-swap}
 use Rattle.theory.specs.Payload.{loaded, wedge}
 use Rattle.theory.specs.Mark.{Goes, opens, joins, closes, passes}
 

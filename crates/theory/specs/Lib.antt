@@ -6,7 +6,7 @@ pub mod Run
 pub mod Dealt
 pub mod Locks
 pub mod RunLaws
-pub mod Perm
+pub mod Every
 pub mod Insert
 pub mod Joined
 pub mod Seen

@@ -63,7 +63,9 @@ pub deal-unlock : (hs : List ℕ) (ws : List Word) → deal hs (map unlock ws) �
 unfolding deal
 deal-unlock hs [] = refl
 deal-unlock hs (w ∷ ws) =
-    ap (λ (es : List Entry). record { home = front hs; remainder = w .remainder } ∷ es) (deal-unlock (due (w .change) hs) ws)
+    ap
+    (λ (es : List Entry). record { home = front hs; remainder = w .remainder } ∷ es)
+    (deal-unlock (due (w .change) hs) ws)
 
 -- ---- whole tables
 pub occupied-unlock : (ws : List Word) → occupied (map unlock ws) ≡ occupied ws
@@ -145,7 +147,8 @@ entry-unlock ws p =
     run = between ws (leftGap (occupied ws) p) (rightGap (occupied ws) p)
 
 entries-from-unlock :
-    (ws : List Word) (p : ℕ) (rest : List Word) → entriesFrom (map unlock ws) p (map unlock rest) ≡ entriesFrom ws p rest
+    (ws : List Word) (p : ℕ) (rest : List Word) →
+    entriesFrom (map unlock ws) p (map unlock rest) ≡ entriesFrom ws p rest
 unfolding entriesFrom
 entries-from-unlock ws p [] = refl
 entries-from-unlock ws p (w ∷ rest) =

@@ -14,8 +14,8 @@ use Rattle.rules.specs.Entry.{Entry, sameHome, precedes}
 use Rattle.rules.specs.Lay.{holds, insert, endsGroup}
 use Rattle.rules.specs.Phase.{smaller, markOf}
 use Rattle.theory.specs.Run.{code, Asc, none, next}
-use Rattle.theory.specs.Perm as perm
-use Rattle.theory.specs.Perm.{All}
+use Rattle.theory.specs.Every as every
+use Rattle.theory.specs.Every.{All}
 use Rattle.theory.specs.Insert.{Below, inserted, precedes-below, precedes-above}
 use Rattle.theory.specs.Payload.{wedge, wedge-front}
 
@@ -129,14 +129,14 @@ goes-between :
     Goes d c e (markOf e (front ++ back)) (length front) (front ++ back)
 unfolding sameHome markOf any all
 goes-between e [] [] low x s ls ms = opens none refl
-goes-between {d} {c} e [] (g ∷ es) low x (next p q r s) ls (perm.both l ms) = go (sameHome e g) refl
+goes-between {d} {c} e [] (g ∷ es) low x (next p q r s) ls (every.both l ms) = go (sameHome e g) refl
   where
     go : (b : Bool) → sameHome e g ≡ b → Goes d c e (markOf e (g ∷ es)) 0 (g ∷ es)
     go true h = rw (h, precedes-above g e (omega arith) (omega arith)) (joins h)
     go false h =
         let n = other-homes e s (omega (arith, eqb-false (e .home) (g .home) h)) low in
         rw (h, n) (opens (next l q r s) (rw (h, n)))
-goes-between e (f ∷ fs) back low x (next p q r s) (perm.both l ls) ms =
+goes-between e (f ∷ fs) back low x (next p q r s) (every.both l ls) ms =
     goes-on low e f x q l s (goes-between e fs back low x s ls ms) refl
 
 module _

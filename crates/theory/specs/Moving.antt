@@ -4,7 +4,7 @@
 -- `add-moves`: so they add what put's definition adds, at either gap of an occupied home. `add-alone`: an unoccupied
 -- home gets one word.
 -- Assumes nothing.
-use Prim.Native.Nat.{ℕ, suc, _+_, _-_, _≤_, _<_}
+use Prim.Native.Nat.{ℕ, suc, _+_, _≤_, _<_}
 use mathlib.Core.Path.{_≡_, refl, sym, ap, ap₂, _∙_, subst}
 use mathlib.Core.Bool.{Bool, true, false, not, cond, _&&_, _||_, true≢false}
 use mathlib.Core.List.{List, [], _∷_, _++_}
@@ -35,7 +35,6 @@ use Rattle.theory.specs.Pairs.{unlocked-same}
 use Rattle.theory.specs.Adding.{locked-append, or-parts}
 use Rattle.theory.specs.Putting.{spliced, add-from}
 use Rattle.theory.specs.Motion.{fillAt, finish}
-use Rattle.theory.specs.Mark.{smaller-le}
 use Rattle.theory.specs.Region.{locks, length-locks}
 use Rattle.theory.specs.Insertion as insertion
 use Rattle.theory.specs.Insertion.{insertion}
@@ -139,29 +138,6 @@ brought side {sh} {ws} {l} {r} {e} h =
           before = omega (arith, begun, h .before, cut ws l r (omega arith) (h .inside) .inside);
           new = h .new;
         })
-
--- the goal is a place of that stretch
-pub goal-inside :
-    (side : Side) {sh : Shape} {ws : List Word} {l r : ℕ} {e : Entry} →
-    Readable side sh ws l r e → from side l + smaller e (entriesBetween ws l r) < upTo side r
-unfolding entriesBetween
-goal-inside side {sh} {ws} {l} {r} {e} h = go side
-  where
-    run : Run (remainders sh) (suc l) (between ws l r) (entriesBetween ws l r)
-    run = sound-is-run sh (suc l) (between ws l r) (h .low) (h .taken) (h .sound)
-
-    rank : smaller e (entriesBetween ws l r) ≤ r - suc l
-    rank =
-        omega (
-          arith,
-          smaller-le e (h .low) (h .remainder) (run .asc) (h .new),
-          run .size,
-          cut ws l r (omega arith) (h .inside) .inside,
-        )
-
-    go : (side : Side) → from side l + smaller e (entriesBetween ws l r) < upTo side r
-    go gaps.left = omega (arith, rank, h .after, h .before)
-    go gaps.right = omega (arith, rank, h .after, h .before)
 
 -- a key that is larger than all of its group follows one of them
 group-precedes :

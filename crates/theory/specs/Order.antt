@@ -6,7 +6,7 @@ use Prim.Native.Nat.{ℕ, zero, suc, _≤_, _<_}
 use mathlib.Core.Path.{_≡_, refl, sym, ap, _∙_, subst}
 use mathlib.Core.Logic.{_≢_}
 use mathlib.Core.Bool.{Bool, true, false, true≢false, false≢true}
-use mathlib.Core.List.{List, [], _∷_, foldl}
+use mathlib.Core.List.{List, [], _∷_}
 use native.Mathlib.Nat.{le-refl}
 use native.Mathlib.Omega.{arith}
 use lib.ListN.{length, getD, set, length-set}
@@ -17,13 +17,12 @@ use Rattle.rules.specs.declared.Shape.{Shape}
 use Rattle.rules.specs.Lists.{count}
 use Rattle.rules.specs.Shape.{homes, places, rightGuard}
 use Rattle.rules.specs.Room.{Room, place, full, roomFor}
-use Rattle.theory.specs.Perm.{All, Perm, fold-perm}
 use Rattle.theory.specs.Gaps.{Taken, Free, TakenFrom, AllTaken, Guarded, HomePlace, Nearest}
 use Rattle.theory.specs.Gaps.{set-keeps, set-taken, set-guarded}
 use Rattle.theory.specs.Gaps.{Side, left, other, home-no-guard, gap-stays, gap-shared}
 use Rattle.theory.specs.Gaps.{roomFrom, Chosen, home, first, second}
 use Rattle.theory.specs.Gaps.{chosen, chosen-only, chosen-nearest, chosen-full}
-use Rattle.theory.specs.Gaps.{room-left, room-nearest, room-full}
+use Rattle.theory.specs.Gaps.{room-left, room-full}
 
 -- the occupied places after a fill
 abbrev pub fillAt : List Bool → Room → List Bool
@@ -160,29 +159,6 @@ pub fills-commute :
 unfolding fillPlaces
 fills-commute {sh} x y z = simp room-left (fills-swap (room-rule left sh) x y z)
 
-pub fill-guarded :
-    {sh : Shape} {os : List Bool} {h : ℕ} → Guarded sh os → HomePlace sh h → Guarded sh (fillPlaces sh os h)
-unfolding fillPlaces
-fill-guarded {sh} {os} {h} g k = go (roomFor sh os h) refl
-  where
-    go : (r : Room) → roomFor sh os h ≡ r → Guarded sh (fillAt os r)
-    go (place p) e = set-guarded g (room-nearest p g k e .inside)
-    go full e = g
-
--- any number of fills, in any order
-pub fills-perm :
-    {sh : Shape} {os : List Bool} {hs ks : List ℕ} → Guarded sh os → All (HomePlace sh) hs → Perm hs ks →
-    foldl (fillPlaces sh) os hs ≡ foldl (fillPlaces sh) os ks
-fills-perm {sh} {os} g ps r =
-    fold-perm
-    (fillPlaces sh)
-    (λ os h g k. fill-guarded g k)
-    (λ os a b g x y. fills-commute g x y)
-    r
-    ps
-    os
-    g
-
 -- ---- counting
 
 -- how many places are occupied
@@ -232,16 +208,7 @@ taken-all {sh} {os = o ∷ os} g t =
     omega
     (arith, taken-homes g, taken-run os (homes sh) (λ q x y. t (suc q) (record { first = omega arith; last = y })))
 
--- a fill adds one
-pub fill-taken :
-    {sh : Shape} {os : List Bool} {h : ℕ} (p : ℕ) → Guarded sh os → HomePlace sh h → roomFor sh os h ≡ place p →
-    taken (fillPlaces sh os h) ≡ suc (taken os)
-unfolding fillPlaces places
-fill-taken {os = os} p g k e =
-    let n = room-nearest p g k e in
-    rw e (taken-set os p (omega (arith, g .size, n .inside .last)) (n .free))
-
--- where fewer places are occupied than there are homes, there is a place to fill; where as many, there is none
+-- where fewer places are occupied than there are homes, there is a place to fill
 pub room-place :
     {sh : Shape} {os : List Bool} (h : ℕ) → Guarded sh os → taken os < homes sh →
     (p : ℕ) × (roomFor sh os h ≡ place p)
@@ -250,12 +217,3 @@ room-place {sh} {os} h g l = go (roomFor sh os h) refl
     go : (r : Room) → roomFor sh os h ≡ r → (p : ℕ) × (roomFor sh os h ≡ place p)
     go (place p) e = (p, e)
     go full e = absurd (omega (arith, taken-all g (room-full h g e)))
-
-pub room-none :
-    {sh : Shape} {os : List Bool} {h : ℕ} → Guarded sh os → HomePlace sh h → taken os ≡ homes sh →
-    roomFor sh os h ≡ full
-room-none {sh} {os} {h} g k l = go (roomFor sh os h) refl
-  where
-    go : (r : Room) → roomFor sh os h ≡ r → roomFor sh os h ≡ full
-    go (place p) e = absurd (omega (arith, fill-taken p g k e, taken-homes (fill-guarded g k)))
-    go full e = e

@@ -311,7 +311,8 @@ unlocked-same (w ∷ ws) free = go (w .lock) refl free (unlocked-same ws)
   where
     go :
         (b : Bool) →
-        w .lock ≡ b → (b || locked ws) ≡ false → (locked ws ≡ false → map unlock ws ≡ ws) → unlock w ∷ map unlock ws ≡ w ∷ ws
+        w .lock ≡ b → (b || locked ws) ≡ false → (locked ws ≡ false → map unlock ws ≡ ws) →
+        unlock w ∷ map unlock ws ≡ w ∷ ws
     go true e t rest = absurd (true≢false t)
     go false e t rest = ap₂ _∷_ (word-path refl refl refl refl (sym e)) (rest t)
 

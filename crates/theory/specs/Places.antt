@@ -15,7 +15,6 @@ use Rattle.rules.specs.Lists.{all}
 use Rattle.rules.specs.Word.{Word, zeroWord, isVoid}
 use Rattle.rules.specs.Table.{at, occupied, leftGap, rightGap, between, cluster, virginPlaces, deal, entriesBetween}
 use Rattle.rules.specs.Table.{clusterEntries}
-use Rattle.rules.specs.Find.{around}
 use Rattle.theory.specs.Dealt.{isOccupied, and-left, and-right}
 use Rattle.theory.specs.Gaps.{Taken, Free, gap-only, leftGap-is, rightGap-is}
 use Rattle.theory.specs.Gaps as gaps
@@ -108,12 +107,6 @@ module _ (u : List Word) (g : Word) (v : List Word) (empty : g .occupied ≡ fal
         (λ (ws : List Word). deal (virginPlaces (suc (leftGap (occupied (u ++ (g ∷ v))) (length u))) ws) ws)
         gap-cluster
 
-    pub gap-around : around (u ++ (g ∷ v)) (length u) ≡ g ∷ []
-    unfolding around
-    gap-around =
-        ap₂ (λ (l r : ℕ). slice l (suc r) (u ++ (g ∷ v))) gap-left gap-right
-        ∙ slice-part u (g ∷ []) v (length u) (suc (length u)) refl (omega arith)
-
 -- ---- a place of a run
 module _ (u : List Word) (g : Word) (run : List Word) (h : Word) (v : List Word)
     (empty-left : g .occupied ≡ false)
@@ -185,19 +178,3 @@ module _ (u : List Word) (g : Word) (run : List Word) (h : Word) (v : List Word)
       run-cluster-entries =
           ap₂ (entriesBetween ws) (run-left p after before) (run-right p after before)
           ∙ ap (λ (t : List Word). deal (virginPlaces (suc (length u)) t) t) run-between
-
-      pub run-around : around ws p ≡ g ∷ (run ++ (h ∷ []))
-      unfolding around
-      run-around =
-          ap₂ (λ (l r : ℕ). slice l (suc r) ws) (run-left p after before) (run-right p after before)
-          ∙ ap
-          (λ (t : List Word). slice (length u) (suc (suc (length u) + length run)) (u ++ (g ∷ t)))
-          (sym (append-assoc run (h ∷ []) v))
-          ∙ slice-part
-          u
-          (g ∷ (run ++ (h ∷ [])))
-          v
-          (length u)
-          (suc (suc (length u) + length run))
-          refl
-          (omega (arith, length-append run (h ∷ [])))

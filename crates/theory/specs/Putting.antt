@@ -184,7 +184,8 @@ added-right :
     d ≤ 4096 →
     e .remainder < d →
     holds e (t .ys) ≡ false →
-    0 < length (t .v) → Added d ws es e (rightGap (occupied ws) (e .home)) (addAt ws e (rightGap (occupied ws) (e .home)))
+    0 < length (t .v) →
+    Added d ws es e (rightGap (occupied ws) (e .home)) (addAt ws e (rightGap (occupied ws) (e .home)))
 unfolding enlargedFrom
 added-right {d} {ws} {es} e t look s low absent more =
     subst₂

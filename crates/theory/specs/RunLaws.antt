@@ -157,7 +157,8 @@ asc-dealt {d} whole q h e (f ∷ es) p (next b l u (next b₁ l₁ u₁ up)) =
     go :
         (x : Bool) →
         sameHome e f ≡ x →
-        ((g : ℕ) → f .home ≡ g → Dealt d (g ∷ later f es) (lay whole (suc q) (replicate (length (f ∷ es)) true) (f ∷ es)) (f ∷ es)) →
+        ((g : ℕ) → f .home ≡ g →
+        Dealt d (g ∷ later f es) (lay whole (suc q) (replicate (length (f ∷ es)) true) (f ∷ es)) (f ∷ es)) →
         Dealt
         d
         (h ∷ cond x (later f es) (f .home ∷ later f es))
@@ -179,7 +180,8 @@ later-rising {c = c} e (f ∷ es) s (next b l u (next b₁ l₁ u₁ up)) k le =
     go :
         (x : Bool) →
         sameHome e f ≡ x →
-        ((j : ℕ) → j ≤ suc (f .home) → Rising c j (later f es)) → Rising c k (cond x (later f es) (f .home ∷ later f es))
+        ((j : ℕ) → j ≤ suc (f .home) → Rising c j (later f es)) →
+        Rising c k (cond x (later f es) (f .home ∷ later f es))
     go true same rest = rest k (omega (arith, same-home e f same))
     go false other rest =
         let after : k ≤ f .home = omega (arith, other-home e f other) in

@@ -73,17 +73,6 @@ whole {d} g {v} {ys} (left-more u h run xs zs left hollow r p q) void right =
     plus : (m n : ℕ) → m + suc n ≡ suc m + n
     plus m n = omega arith
 
--- a table seen from a run
-pub whole-run :
-    {d : ℕ} {u : List Word} {xs : List Entry} (g : Word) {run : List Word} {ys : List Entry} (h : Word) {v : List Word}
-    {zs : List Entry} →
-    Left d u xs →
-    isVoid g ≡ true →
-    Run d (suc (length u)) run ys →
-    isVoid h ≡ true →
-    Right d (suc (suc (length u) + length run)) v zs → Table d (u ++ (g ∷ (run ++ (h ∷ v)))) (xs ++ (ys ++ zs))
-whole-run g h left void r hollow right = whole g left void (right-more _ h _ _ _ r hollow right refl refl)
-
 -- ---- the order of the entries
 pub right-asc :
     {d p : ℕ} {ws : List Word} {es : List Entry} → d ≤ 4096 → Right d p ws es → Asc d (p + length ws) (p * 4096) es
@@ -182,7 +171,16 @@ locate-from {d} {p} {u} {xs} g {v} {ys} q at left void (right-end e f) low high 
     })
 locate-from {d} {p} {u} {xs} g {v} {ys} q at left void (right-more run h w zs ts r hollow rest e f) low high =
     here-or-on (eqb p (length u)) refl (ltb p (q + length run)) refl
-    (λ k. locate-from {p = p} h (suc (q + length run)) far (left-on g run zs left void (subst (λ (n : ℕ). Run d n run zs) at r)) hollow rest k
+    (λ k.
+    locate-from
+    {p = p}
+    h
+    (suc (q + length run))
+    far
+    (left-on g run zs left void (subst (λ (n : ℕ). Run d n run zs) at r))
+    hollow
+    rest
+    k
     (omega (arith, ap length e, length-append run (h ∷ w))))
   where
     far : suc (q + length run) ≡ suc (length (u ++ (g ∷ run)))

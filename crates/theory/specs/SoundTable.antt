@@ -79,7 +79,9 @@ module _ (u : List Word) (g : Word) (run : List Word) (h : Word) (v : List Word)
         and-both
         _
         _
-        (ap (λ (o : Bool). cond o (soundRun sh (cluster ws (suc (length u) + i))) (isVoid b)) (and-left (b .occupied) _ occ)
+        (ap
+        (λ (o : Bool). cond o (soundRun sh (cluster ws (suc (length u) + i))) (isVoid b))
+        (and-left (b .occupied) _ occ)
         ∙ ap
         (soundRun sh)
         (run-cluster u g run h v empty-left taken empty-right origin (suc (length u) + i) (omega arith) (omega arith))
@@ -125,7 +127,10 @@ module _ (u : List Word) (g : Word) (run : List Word) (h : Word) (v : List Word)
     run-entries-from i [] size long occ = sym (drop-of-length-le es {i = i} (omega arith))
     run-entries-from i (b ∷ back) size long occ =
         ap
-        (λ (o : Bool). cond o (entryAt ws (suc (length u) + i) ∷ entriesFrom ws (suc (suc (length u) + i)) back) (entriesFrom ws (suc (suc (length u) + i)) back))
+        (λ (o : Bool).
+        cond o
+        (entryAt ws (suc (length u) + i) ∷ entriesFrom ws (suc (suc (length u) + i)) back)
+        (entriesFrom ws (suc (suc (length u) + i)) back))
         (and-left (b .occupied) _ occ)
         ∙ ap₂
         _∷_
@@ -146,7 +151,8 @@ module _ (u : List Word) (g : Word) (run : List Word) (h : Word) (v : List Word)
         (sh : Shape) →
         soundRun sh run ≡ true →
         isVoid h ≡ true →
-        soundFrom sh ws (suc (suc (length u) + length run)) v ≡ true → soundFrom sh ws (suc (length u)) (run ++ (h ∷ v)) ≡ true
+        soundFrom sh ws (suc (suc (length u) + length run)) v ≡ true →
+        soundFrom sh ws (suc (length u)) (run ++ (h ∷ v)) ≡ true
     unfolding soundFrom
     sound-past sh snd hollow rest =
         sound-append sh ws (suc (length u)) run (h ∷ v)
@@ -166,7 +172,10 @@ module _ (u : List Word) (g : Word) (run : List Word) (h : Word) (v : List Word)
         _++_
         (subst (λ (n : ℕ). entriesFrom ws n run ≡ es) at-first (run-entries-from 0 run (omega arith) long taken))
         (ap
-        (λ (o : Bool). cond o (entryAt ws (suc (length u) + length run) ∷ entriesFrom ws (suc (suc (length u) + length run)) v) (entriesFrom ws (suc (suc (length u) + length run)) v))
+        (λ (o : Bool).
+        cond o
+        (entryAt ws (suc (length u) + length run) ∷ entriesFrom ws (suc (suc (length u) + length run)) v)
+        (entriesFrom ws (suc (suc (length u) + length run)) v))
         empty-right)
 
     -- the other way: what soundness from the run's first place on tells

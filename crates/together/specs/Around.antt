@@ -1,6 +1,6 @@
 -- What a task that holds both its ends sees: between them lies the cluster of its home, as it is laid.
 -- Assumes nothing.
-use Prim.Native.Nat.{ℕ, suc, _-_, _≤_, _<_}
+use Prim.Native.Nat.{ℕ, suc, _≤_, _<_}
 use mathlib.Core.Path.{_≡_, sym, ap, ap₂, _∙_, subst}
 use mathlib.Core.Bool.{Bool, true}
 use mathlib.Core.List.{List, map}
@@ -74,8 +74,12 @@ around {sh} {ws} {ts} {laid} {shown} low inv i lt from-7 to-8 k x left-held righ
           ∙ sound-around sh laid h (look .sound) .run;
       entries =
           sym
-          (ap (λ (hs : List ℕ). deal hs (map unlock (between ws (t .left) (t .right)))) (virgin-unlock (suc (t .left)) (between ws (t .left) (t .right)))
-          ∙ deal-unlock (virginPlaces (suc (t .left)) (between ws (t .left) (t .right))) (between ws (t .left) (t .right)))
+          (ap
+          (λ (hs : List ℕ). deal hs (map unlock (between ws (t .left) (t .right))))
+          (virgin-unlock (suc (t .left)) (between ws (t .left) (t .right)))
+          ∙ deal-unlock
+          (virginPlaces (suc (t .left)) (between ws (t .left) (t .right)))
+          (between ws (t .left) (t .right)))
           ∙ ap (λ (vs : List Word). deal (virginPlaces (suc (t .left)) vs) vs) run-same;
       same =
           ap₂ (λ (l r : ℕ). holds (split sh (t .key)) (entriesBetween laid l r)) (sym left-is) (sym right-is)

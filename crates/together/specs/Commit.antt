@@ -224,7 +224,11 @@ module _ {sh : Shape} {ws : List Word} {ts : List Task} {laid : List Word} {show
             + smaller e (entriesBetween laid (leftGap (occupied laid) (e .home)) (rightGap (occupied laid) (e .home)))
             ≡ t .goal
         goal-is =
-            ap (λ (n : ℕ). n + smaller e (entriesBetween laid (leftGap (occupied laid) (e .home)) (rightGap (occupied laid) (e .home)))) (begins-from addable home-taken (y .side))
+            ap
+            (λ (n : ℕ).
+            n
+            + smaller e (entriesBetween laid (leftGap (occupied laid) (e .home)) (rightGap (occupied laid) (e .home))))
+            (begins-from addable home-taken (y .side))
             ∙ ap₂ (λ (l r : ℕ). from (y .side) l + smaller e (entriesBetween laid l r)) (see .left) (see .right)
             ∙ sym (y .goal)
 
@@ -467,7 +471,13 @@ module _ {sh : Shape} {ws : List Word} {ts : List Task} {laid : List Word} {show
           waiting =
               filled-other
               (end (other (y .side)) (t .left) (t .right))
-              (λ same. other-end (y .side) (t .left) (t .right) (omega (arith, x .leftward .below, x .above)) (same ∙ y .hand))
+              (λ same.
+              other-end
+              (y .side)
+              (t .left)
+              (t .right)
+              (omega (arith, x .leftward .below, x .above))
+              (same ∙ y .hand))
               ∙ other-held;
           hand-low = named .hand-low;
           hand-high = named .hand-high;
@@ -486,7 +496,12 @@ module _ {sh : Shape} {ws : List Word} {ts : List Task} {laid : List Word} {show
           size′ = filled-size;
           laid-size = inv .plain .size;
           laid-size′ = put-in .state .size;
-          words = λ q far. ap unlock (filled-other q (λ (same : q ≡ t .hand). far (subst (Within (t .left) (t .right)) (sym same) hand-in)));
+          words = λ q far.
+              ap
+              unlock
+              (filled-other
+              q
+              (λ (same : q ≡ t .hand). far (subst (Within (t .left) (t .right)) (sym same) hand-in)));
           grows = filled-grows;
           laid-words = laid-outside;
           keeps = λ f h. held-still e f shown h;
@@ -494,7 +509,8 @@ module _ {sh : Shape} {ws : List Word} {ts : List Task} {laid : List Word} {show
 
     -- another task that has read has another key: its home lies in its own stretch
     still-new :
-        (u : Task) → Apart t u → Stage sh ws laid shown u → u .phase ≡ 8 → holds (split sh (u .key)) (insert e shown) ≡ holds (split sh (u .key)) shown
+        (u : Task) → Apart t u → Stage sh ws laid shown u → u .phase ≡ 8 →
+        holds (split sh (u .key)) (insert e shown) ≡ holds (split sh (u .key)) shown
     unfolding homePlace
     still-new u a s at-8 =
         held-other e (split sh (u .key)) shown

@@ -3,7 +3,7 @@
 -- every proof is elsewhere (Fair, Rest).
 -- Assumes nothing.
 use Prim.Native.Nat.{ℕ, _+_, _≤_, _<_}
-use mathlib.Core.Path.{_≡_, refl, sym, ap, _∙_}
+use mathlib.Core.Path.{_≡_, refl, sym, ap}
 use mathlib.Core.Logic.{_⊎_, _≢_, inl, inr}
 use mathlib.Core.Bool.{Bool, true, false, not, _&&_, _||_}
 use mathlib.Core.List.{List, _++_}
@@ -15,8 +15,8 @@ use Rattle.rules.specs.declared.Task.{Task}
 use Rattle.rules.specs.Lists.{bitOf}
 use Rattle.rules.specs.Shape.{shapeOf, homes, keys}
 use Rattle.rules.specs.Step.{step}
-use Rattle.theory.specs.Perm as perm
-use Rattle.theory.specs.Perm.{All}
+use Rattle.theory.specs.Every as every
+use Rattle.theory.specs.Every.{All}
 use Rattle.theory.specs.Keys.{listed}
 use Rattle.demands.specs.Terms.{PlainTable, InKeys, listOf, distinct, putAll}
 use Rattle.together.specs.Machine.{Action, Said, World, begin, course, quiet, timesGiven, timesSaid}
@@ -47,7 +47,7 @@ module _ {m r : ℕ} {bytes : List ℕ} (t : PlainTable m r bytes) (ts : List Ta
 
     -- every answer is found, inserted or full; 4 is never given
     pub answers-known : All (λ (s : Said). (1 ≤ s .answer) × (s .answer ≤ 3)) (after .said)
-    answers-known = perm.all-map known (fair .meaning)
+    answers-known = every.all-map known (fair .meaning)
       where
         known : (s : Said) → Means (shapeOf m r) (fair .shown) s → (1 ≤ s .answer) × (s .answer ≤ 3)
         known s (means-full e) = (omega arith, omega arith)
@@ -63,7 +63,8 @@ module _ {m r : ℕ} {bytes : List ℕ} (t : PlainTable m r bytes) (ts : List Ta
 
       tally :
           (x : ℕ) →
-          bitOf (listed x (listOf m r bytes)) + timesInserted x (after .said) ≡ bitOf (listed x (listOf m r (after .table)))
+          bitOf (listed x (listOf m r bytes)) + timesInserted x (after .said)
+          ≡ bitOf (listed x (listOf m r (after .table)))
       unfolding quiet
       tally = proof.rest-tally t fair done
 

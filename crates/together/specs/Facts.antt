@@ -153,7 +153,8 @@ module _ {sh : Shape} {ws : List Word} {ts : List Task} {laid : List Word} {show
 
         go :
             (m : Moves sh ws laid shown t) (side : Side) →
-            m .moving .side ≡ side → (p ≡ t .left) ⊎ (p ≢ t .left) → (p ≡ t .right) ⊎ (p ≢ t .right) → at ws p ≡ lockWord
+            m .moving .side ≡ side → (p ≡ t .left) ⊎ (p ≢ t .left) → (p ≡ t .right) ⊎ (p ≢ t .right) →
+            at ws p ≡ lockWord
         go m side e (inr a) (inr b) =
             never (between-taken (m .looked) p (omega (arith, u .inside)) (omega (arith, u .inside)))
         go m gaps.left e (inl a) b =

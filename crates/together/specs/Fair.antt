@@ -4,18 +4,18 @@
 use Prim.Native.Nat.{ℕ, zero, suc, _+_, _*_, _≤_, _<_}
 use mathlib.Core.Path.{_≡_, refl, sym, ap, ap₂, _∙_, subst}
 use mathlib.Core.Logic.{_⊎_, _≢_, inl, inr}
-use mathlib.Core.Bool.{Bool, true, false, not, cond, _&&_, _||_, true≢false, false≢true}
-use mathlib.Core.List.{List, [], _∷_, _++_, map}
+use mathlib.Core.Bool.{Bool, true, false, cond, _&&_, _||_, true≢false, false≢true}
+use mathlib.Core.List.{List, [], _∷_, _++_}
 use native.Mathlib.Omega.{arith}
 use native.Mathlib.Nat.{zero-add}
 use lib.ListN.{length, getD, set, length-set}
 use lib.Seq.{set-getD}
 use lib.Dec.{eqb, leb, ltb}
-use borrow.Author.Tests.{eqb-true, eqb-false, eq-eqb, ne-eqb, le-leb, leb-true, lt-ltb, ltb-true, ltb-false, le-ltb}
+use borrow.Author.Tests.{eqb-true, eqb-false, eq-eqb, ne-eqb, le-leb, lt-ltb, ltb-true, ltb-false}
 use Rattle.rules.specs.declared.Shape.{Shape}
 use Rattle.rules.specs.declared.Task.{Task}
 use Rattle.rules.specs.Lists.{bitOf, count, all, any}
-use Rattle.rules.specs.Word.{Word, zeroWord}
+use Rattle.rules.specs.Word.{Word}
 use Rattle.rules.specs.Bytes.{wordsOf, bytesOf}
 use Rattle.rules.specs.Shape.{shapeOf, inRange, remainders, keys, places, goodTable, fitsLength}
 use Rattle.rules.specs.Entry.{Entry, split, sameEntry}
@@ -24,37 +24,35 @@ use Rattle.rules.specs.Lay.{holds, insert}
 use Rattle.rules.specs.Build.{puts}
 use Rattle.rules.specs.Answer.{Answer, says, refuses, Leaves, leaves}
 use Rattle.rules.specs.Record.{busy, atRest, fitsBusy, fits}
-use Rattle.rules.specs.Give.{given, noTask, taskAt, goodTask, giveTo, storedAt, give}
-use Rattle.rules.specs.Step.{Lent, Stepped, refused, stepOf, lentAfter, step}
-use Rattle.words.specs.Range.{InRange, good-table, remainders-high}
+use Rattle.rules.specs.Give.{given, noTask, taskAt, goodTask, giveTo, give}
+use Rattle.rules.specs.Step.{Lent, refused, stepOf, lentAfter, step}
+use Rattle.words.specs.Range.{good-table, remainders-high}
 use Rattle.words.specs.Layout.{bytes-length, words-of-bytes, remainders-small}
-use Rattle.theory.specs.Run.{unlock}
-use Rattle.theory.specs.Perm as perm
-use Rattle.theory.specs.Perm.{All}
+use Rattle.theory.specs.Every as every
+use Rattle.theory.specs.Every.{All}
 use Rattle.theory.specs.Insert.{same-eq, holds-insert}
 use Rattle.theory.specs.Dealt.{and-left, and-right, and-both, or-left, or-right}
 use Rattle.theory.specs.Joined.{or-none}
 use Rattle.theory.specs.Keys.{listed}
-use Rattle.theory.specs.Gaps.{HomePlace, AllTaken, full-room}
+use Rattle.theory.specs.Gaps.{AllTaken, full-room}
 use Rattle.theory.specs.Putting.{table-guarded}
 use Rattle.theory.specs.Building.{State, after-put, Roomy, Inside, put-not-full, in-home}
-use Rattle.demands.specs.Terms.{SoundTable, PlainTable, InKeys, entriesOf}
-use Rattle.demands.specs.Lent.{in-range-of, low-of, size-of, state-of, bytes-small}
+use Rattle.demands.specs.Terms.{PlainTable, InKeys, entriesOf}
+use Rattle.demands.specs.Lent.{state-of, bytes-small}
 use Rattle.demands.specs.Proof2.{same-split}
 use Rattle.demands.specs.Proof3.{listed-split}
-use Rattle.together.specs.Invariant.{Owns, by-left, by-right, Reserves, Apart, Unfinished, Inv, Stage, at-rest}
+use Rattle.together.specs.Invariant.{Owns, by-left, by-right, Reserves, Unfinished, Inv, Stage, at-rest}
 use Rattle.together.specs.Invariant.{at-home}
 use Rattle.together.specs.Invariant.{looks-left, looks-right, owns-left, owns-both, has-read, moving, marking}
 use Rattle.together.specs.Invariant.{frees-left, frees-right}
-use Rattle.together.specs.Update.{Steps, inv-update, task-same, task-other, same-or-not}
-use Rattle.together.specs.Facts.{in-order, words-size}
+use Rattle.together.specs.Update.{inv-update, task-same, task-other, same-or-not}
+use Rattle.together.specs.Facts.{words-size}
 use Rattle.together.specs.Fitting.{stage-fits}
 use Rattle.together.specs.Quiet.{still}
 use Rattle.together.specs.Walk.{Walked, Effect, keeps, commits, weight, Answered, says-full, says-shown}
 use Rattle.together.specs.Course.{walk}
 use Rattle.together.specs.Commit.{held-still, plain-unlocked}
 use Rattle.together.specs.Machine.{Action, gives, steps, Said, World, begin, afterGive, afterStep, act, course}
-use Rattle.together.specs.Machine.{quiet}
 use Rattle.together.specs.Machine.{timesGiven, timesSaid, timesInserted}
 use Rattle.together.specs.History.{timesLoaded, timesBusy, heard, tally-step, answers-step, give-tally}
 use Rattle.together.specs.History.{quiet-counts, rest-phase}
@@ -100,7 +98,8 @@ pub record Fair (m r : ℕ) (start : List ℕ) (w : World) : Type 0 where
   pub task-given :
       (i : ℕ) →
       i < length (w .tasks) →
-      1 ≤ taskAt (w .tasks) i .phase → taskAt (w .tasks) i .phase ≤ 12 → listed (taskAt (w .tasks) i .key) (w .given) ≡ true
+      1 ≤ taskAt (w .tasks) i .phase → taskAt (w .tasks) i .phase ≤ 12 →
+      listed (taskAt (w .tasks) i .key) (w .given) ≡ true
   pub in-keys : InKeys (shapeOf m r) (w .given)
   pub meaning : All (Means (shapeOf m r) shown) (w .said)
   pub none-full : (us : List Entry) → Spacious m r start (w .given) us → NoneFull (w .tasks) (w .said)
@@ -177,11 +176,11 @@ fair-begin {m} {r} {bytes} ts t few rest =
       answers = λ key. omega (arith, quiet-counts key ts rest .1);
       task-given = λ i lt a b. absurd (never i (rest-at ts i lt rest) a b);
       in-keys = refl;
-      meaning = perm.none;
+      meaning = every.none;
       none-full = λ us space.
           record {
             of-busy = λ i lt a b full. never i (rest-at ts i lt rest) a b;
-            of-said = perm.none;
+            of-said = every.none;
           };
     }
   where
@@ -329,7 +328,9 @@ fair-given {m} {r} {start} {w} i key f lt small idle =
         1 ≤ taskAt (set (w .tasks) i (given key)) j .phase →
         taskAt (set (w .tasks) i (given key)) j .phase ≤ 12 →
         (j ≡ i) ⊎ (j ≢ i) →
-        (eqb (taskAt (set (w .tasks) i (given key)) j .key) key || listed (taskAt (set (w .tasks) i (given key)) j .key) (w .given)) ≡ true
+        (eqb (taskAt (set (w .tasks) i (given key)) j .key) key
+        || listed (taskAt (set (w .tasks) i (given key)) j .key) (w .given))
+        ≡ true
     or-else j l a b (inl e) =
         or-left
         _
@@ -369,7 +370,8 @@ fair-give {m} {r} {start} {w} i key f =
     sixteen = le-leb (length (w .tasks)) 16 (f .few)
 
     by-answer :
-        {x : Leaves (List Task)} → give m r key (w .tasks) i ≡ x → Fair m r start (afterGive w key x) → Fair m r start (act m r w (gives i key))
+        {x : Leaves (List Task)} → give m r key (w .tasks) i ≡ x → Fair m r start (afterGive w key x) →
+        Fair m r start (act m r w (gives i key))
     by-answer e g = subst (λ (x : Leaves (List Task)). Fair m r start (afterGive w key x)) (sym e) g
 
     go :
@@ -543,7 +545,9 @@ module _ {m r : ℕ} {start : List ℕ} {w : World} (f : Fair m r start w) (i : 
                 let apart = eqb-false key (t .key) (sym (same-split (shapeOf m r) key (t .key)) ∙ k) in
                 ap (λ (b : Bool). bitOf (b || holds (split (shapeOf m r) key) (f .shown))) k
                 ∙ sym
-                (ap (λ (a : Bool). bitOf a + bitOf (holds (split (shapeOf m r) key) (f .shown))) (ne-eqb (t .key) key (λ z. apart (sym z)))
+                (ap
+                (λ (a : Bool). bitOf a + bitOf (holds (split (shapeOf m r) key) (f .shown)))
+                (ne-eqb (t .key) key (λ z. apart (sym z)))
                 ∙ zero-add (bitOf (holds (split (shapeOf m r) key) (f .shown))))
 
 -- ---- the world after a step
@@ -605,7 +609,11 @@ module _ {m r : ℕ} {start : List ℕ} {w : World} (f : Fair m r start w) (i : 
         _
         _
         (bytes-length (k .words)
-        ∙ ap (λ (n : ℕ). 2 * n) (words-size (remainders-high (shapeOf m r) (good-table (shapeOf m r) (length (w .table)) (f .good) .0)) (inv-update i lt (f .inv) (k .shows)))))
+        ∙ ap
+        (λ (n : ℕ). 2 * n)
+        (words-size
+        (remainders-high (shapeOf m r) (good-table (shapeOf m r) (length (w .table)) (f .good) .0))
+        (inv-update i lt (f .inv) (k .shows)))))
 
     -- the stepped record's key, and every other's, was given
     still-given :
@@ -635,7 +643,7 @@ module _ {m r : ℕ} {start : List ℕ} {w : World} (f : Fair m r start w) (i : 
     meaning-after = go (eqb (k .next .phase) 13) refl
       where
         older : All (Means (shapeOf m r) (k .shown-after)) (w .said)
-        older = perm.all-map later (f .meaning)
+        older = every.all-map later (f .meaning)
           where
             later : (s : Said) → Means (shapeOf m r) (f .shown) s → Means (shapeOf m r) (k .shown-after) s
             later s (means-full e) = means-full e
@@ -650,8 +658,10 @@ module _ {m r : ℕ} {start : List ℕ} {w : World} (f : Fair m r start w) (i : 
         go :
             (b : Bool) →
             eqb (k .next .phase) 13 ≡ b →
-            All (Means (shapeOf m r) (k .shown-after)) (cond b (record { key = k .next .key; answer = k .next .answer } ∷ w .said) (w .said))
-        go true e = perm.both (meant (k .ends (eqb-true (k .next .phase) 13 e))) older
+            All
+            (Means (shapeOf m r) (k .shown-after))
+            (cond b (record { key = k .next .key; answer = k .next .answer } ∷ w .said) (w .said))
+        go true e = every.both (meant (k .ends (eqb-true (k .next .phase) 13 e))) older
         go false e = older
 
     -- with room for all keys nobody says full
@@ -679,7 +689,9 @@ module _ {m r : ℕ} {start : List ℕ} {w : World} (f : Fair m r start w) (i : 
 
         go :
             (taskAt (w .tasks) i .answer ≡ 3)
-            ⊎ (AllTaken (shapeOf m r) (occupied (f .laid)) × (holds (split (shapeOf m r) (taskAt (w .tasks) i .key)) (f .shown) ≡ false)) → ⊥
+            ⊎ (AllTaken (shapeOf m r) (occupied (f .laid))
+            × (holds (split (shapeOf m r) (taskAt (w .tasks) i .key)) (f .shown) ≡ false)) →
+            ⊥
         go (inl before) = f .none-full us space .of-busy i lt first last before
         go (inr (every, new)) =
             put-not-full
@@ -729,8 +741,12 @@ module _ {m r : ℕ} {start : List ℕ} {w : World} (f : Fair m r start w) (i : 
             (subst (λ (t : Task). t .phase ≤ 12) same b)
             (sym (ap (λ (t : Task). t .answer) same) ∙ full)
 
-        go : (b : Bool) → All (λ (s : Said). s .answer ≢ 3) (cond b (record { key = k .next .key; answer = k .next .answer } ∷ w .said) (w .said))
-        go true = perm.both (not-full us space) (before .of-said)
+        go :
+            (b : Bool) →
+            All
+            (λ (s : Said). s .answer ≢ 3)
+            (cond b (record { key = k .next .key; answer = k .next .answer } ∷ w .said) (w .said))
+        go true = every.both (not-full us space) (before .of-said)
         go false = before .of-said
 
     fair-stepped : Fair m r start (stepped-world w i (k .next) (k .words))
@@ -766,7 +782,8 @@ data StepCase {m r : ℕ} {start : List ℕ} {w : World} (f : Fair m r start w) 
   no-task : length (w .tasks) ≤ i → step m r (w .table) (w .tasks) i ≡ leaves (refuses 3) (lent w) → StepCase f i
   resting :
       i < length (w .tasks) →
-      atRest (taskAt (w .tasks) i) ≡ true → step m r (w .table) (w .tasks) i ≡ leaves (refuses 5) (lent w) → StepCase f i
+      atRest (taskAt (w .tasks) i) ≡ true → step m r (w .table) (w .tasks) i ≡ leaves (refuses 5) (lent w) →
+      StepCase f i
   walked :
       (lt : i < length (w .tasks)) →
       1 ≤ taskAt (w .tasks) i .phase →

@@ -1,6 +1,6 @@
 -- Phases 9 to 12 under the invariant: the moves, the mark, and the release of both ends. The table laid stays as it is.
 -- Assumes nothing.
-use Prim.Native.Nat.{ℕ, _-_, _≤_, _<_}
+use Prim.Native.Nat.{ℕ, suc, _≤_, _<_}
 use mathlib.Core.Path.{_≡_, refl, sym, ap, ap₂, _∙_, subst}
 use mathlib.Core.Logic.{_⊎_, _≢_, inl, inr}
 use mathlib.Core.Bool.{Bool, true, false, cond, _&&_, _||_, false≢true}
@@ -168,7 +168,9 @@ module _ {sh : Shape} {ws : List Word} {ts : List Task} {laid : List Word} {show
     module _ (p : t .phase ≡ 9) (k : t .key < keys sh) (x : Looked sh ws t) (apart : t .hand ≢ t .goal)
         (m : Moving sh ws laid shown t)
       where
-        near : (from (m .side) (t .left) ≤ toward (t .hand) (t .goal)) × (toward (t .hand) (t .goal) < upTo (m .side) (t .right))
+        near :
+            (from (m .side) (t .left) ≤ toward (t .hand) (t .goal))
+            × (toward (t .hand) (t .goal) < upTo (m .side) (t .right))
         near =
             toward-within
             (from (m .side) (t .left))
@@ -199,7 +201,8 @@ module _ {sh : Shape} {ws : List Word} {ts : List Task} {laid : List Word} {show
               leftward =
                   record {
                     below = x .leftward .below;
-                    taken = λ q a b. exchange-taken ws (t .hand) to-place hand-inside next-inside q ∙ x .leftward .taken q a b;
+                    taken = λ q a b.
+                        exchange-taken ws (t .hand) to-place hand-inside next-inside q ∙ x .leftward .taken q a b;
                   };
               above = x .above;
               inside = x .inside;
@@ -272,8 +275,14 @@ module _ {sh : Shape} {ws : List Word} {ts : List Task} {laid : List Word} {show
             hand-inside
             next-inside
             q
-            (λ (e : q ≡ t .hand). far (omega (arith, m .hand-low, from-ge (m .side) (t .left)), omega (arith, m .hand-high, upTo-le (m .side) (t .right))))
-            (λ (e : q ≡ to-place). far (omega (arith, near .0, from-ge (m .side) (t .left)), omega (arith, near .1, upTo-le (m .side) (t .right))))
+            (λ (e : q ≡ t .hand). far (omega (arith, m .hand-low, low-end), omega (arith, m .hand-high, high-end)))
+            (λ (e : q ≡ to-place). far (omega (arith, near .0, low-end), omega (arith, near .1, high-end)))
+          where
+            low-end : t .left ≤ from (m .side) (t .left)
+            low-end = from-ge (m .side) (t .left)
+
+            high-end : upTo (m .side) (t .right) ≤ suc (t .right)
+            high-end = upTo-le (m .side) (t .right)
 
         move-to :
             (n : ℕ) →
@@ -468,8 +477,14 @@ module _ {sh : Shape} {ws : List Word} {ts : List Task} {laid : List Word} {show
         done-waiting : at done (end (other (m .side)) (t .left) (t .right)) ≡ lockWord
         done-waiting =
             word-of
-            (m .finished place (end-in (other (m .side)) (t .left) (t .right) (omega (arith, x .leftward .below, x .above)))
-            ∙ plain-void place (inv .plain) low (occupied-same laid ws place (sym (inv .places)) ∙ ap (λ (w : Word). w .occupied) (m .waiting)))
+            (m .finished
+            place
+            (end-in (other (m .side)) (t .left) (t .right) (omega (arith, x .leftward .below, x .above)))
+            ∙ plain-void
+            place
+            (inv .plain)
+            low
+            (occupied-same laid ws place (sym (inv .places)) ∙ ap (λ (w : Word). w .occupied) (m .waiting)))
             (done-locks place ∙ ap (λ (w : Word). w .lock) (m .waiting))
           where
             place : ℕ
@@ -537,7 +552,8 @@ module _ {sh : Shape} {ws : List Word} {ts : List Task} {laid : List Word} {show
     -- ---- phases 11 and 12
     -- what is owned on the right once the left is free
     right-of-ends :
-        {vs : List Word} (n : ℕ) → at vs (t .right) ≡ at ws (t .right) → Ends sh ws shown t → RightEnd sh vs shown (toPhase n t)
+        {vs : List Word} (n : ℕ) → at vs (t .right) ≡ at ws (t .right) → Ends sh ws shown t →
+        RightEnd sh vs shown (toPhase n t)
     right-of-ends n same (ends-found a h l r) = right-found a h (same ∙ r)
     right-of-ends n same (ends-full a l r) = right-full a (same ∙ r)
     right-of-ends n same (ends-inserted a h gaps.left f x y) = right-waiting a h (same ∙ y)
@@ -602,7 +618,10 @@ module _ {sh : Shape} {ws : List Word} {ts : List Task} {laid : List Word} {show
           ends = λ e. absurd (omega arith);
           begun = omega arith;
           full = λ h. inl h;
-          effect = keeps (weight-late (toPhase 12 t) (omega arith) (omega arith) ∙ sym (weight-late t (omega arith) (omega arith)));
+          effect =
+              keeps
+              (weight-late (toPhase 12 t) (omega arith) (omega arith)
+              ∙ sym (weight-late t (omega arith) (omega arith)));
         }
       where
         inside : t .left < length ws
@@ -651,7 +670,10 @@ module _ {sh : Shape} {ws : List Word} {ts : List Task} {laid : List Word} {show
           ends = λ e. answer-of 13 end-right;
           begun = omega arith;
           full = λ h. inl h;
-          effect = keeps (weight-late (toPhase 13 t) (omega arith) (omega arith) ∙ sym (weight-late t (omega arith) (omega arith)));
+          effect =
+              keeps
+              (weight-late (toPhase 13 t) (omega arith) (omega arith)
+              ∙ sym (weight-late t (omega arith) (omega arith)));
         }
       where
         inside : t .right < length ws

@@ -150,7 +150,9 @@ ready-named {sh} {ws} {laid} {shown} {t} size x y =
     ordered : t .left < t .right
     ordered = omega (arith, x .leftward .below, x .above)
 
-    near : (from (y .side) (t .left) ≤ end (y .side) (t .left) (t .right)) × (end (y .side) (t .left) (t .right) < upTo (y .side) (t .right))
+    near :
+        (from (y .side) (t .left) ≤ end (y .side) (t .left) (t .right))
+        × (end (y .side) (t .left) (t .right) < upTo (y .side) (t .right))
     near = end-within (y .side) (t .left) (t .right) ordered
 
     rank : smaller e es ≤ t .right - suc (t .left)

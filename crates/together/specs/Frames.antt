@@ -69,7 +69,13 @@ module _ (ws : List Word) (a b : ℕ) (le : a ≤ b) (lt : b < length ws) where
       finish-parts : finish ws hand goal mark home ≡ take a ws ++ (inner ++ drop (suc b) ws)
       unfolding inner
       finish-parts =
-          (λ j. finish (parts ws a b le lt j) (place hand (hand-in .0) j) (place goal (goal-in .0) j) mark (place home (home-in .0) j))
+          (λ j.
+          finish
+          (parts ws a b le lt j)
+          (place hand (hand-in .0) j)
+          (place goal (goal-in .0) j)
+          mark
+          (place home (home-in .0) j))
           ∙ finish-within
           (take a ws)
           (stretch ws a b)

@@ -1,23 +1,21 @@
 -- Counting over the records and the history: how often a key is busy, loaded (put and not yet answered), answered;
 -- and what a give and a step do to these counts.
 -- Assumes nothing.
-use Prim.Native.Nat.{ℕ, zero, suc, _+_, _*_, _≤_, _<_}
-use mathlib.Core.Path.{_≡_, refl, sym, ap, ap₂, _∙_, subst}
+use Prim.Native.Nat.{ℕ, zero, suc, _+_, _≤_, _<_}
+use mathlib.Core.Path.{_≡_, refl, sym, ap, ap₂, _∙_}
 use mathlib.Core.Logic.{_⊎_, _≢_, inl, inr}
-use mathlib.Core.Bool.{Bool, true, false, not, cond, _&&_, _||_, true≢false, false≢true}
-use mathlib.Core.List.{List, [], _∷_, _++_, map}
+use mathlib.Core.Bool.{Bool, true, false, cond, _&&_, _||_, false≢true}
+use mathlib.Core.List.{List, [], _∷_}
 use native.Mathlib.Omega.{arith}
-use lib.ListN.{length, getD, set, length-set}
-use lib.Dec.{eqb, leb, ltb}
-use borrow.Author.Tests.{eqb-true, eqb-false, eq-eqb, ne-eqb, le-leb, lt-leb, leb-true, leb-false, lt-ltb, ltb-true}
-use borrow.Author.Tests.{le-ltb, ltb-false}
-use Rattle.rules.specs.declared.Shape.{Shape}
+use lib.ListN.{length, getD, set}
+use lib.Dec.{eqb, leb}
+use borrow.Author.Tests.{eqb-true, eqb-false, le-leb}
 use Rattle.rules.specs.declared.Task.{Task}
-use Rattle.rules.specs.Lists.{bitOf, count, all, any}
+use Rattle.rules.specs.Lists.{bitOf, count, all}
 use Rattle.rules.specs.Record.{within, busy, atRest}
 use Rattle.rules.specs.Give.{noTask, taskAt}
 use Rattle.theory.specs.Dealt.{and-left, and-right}
-use Rattle.together.specs.Machine.{Said, timesGiven, timesSaid, timesInserted}
+use Rattle.together.specs.Machine.{Said, timesSaid, timesInserted}
 use Rattle.together.specs.Walk.{weight}
 
 -- ---- counting over a list in which one element is stored anew
@@ -133,7 +131,9 @@ tally-step key ts i t′ ss lt before after same = go (eqb (t′ .phase) 13) ref
     go :
         (b : Bool) →
         eqb (t′ .phase) 13 ≡ b →
-        count (λ (s : Said). eqb (s .key) key && eqb (s .answer) 2) (cond b (record { key = t′ .key; answer = t′ .answer } ∷ ss) ss)
+        count
+        (λ (s : Said). eqb (s .key) key && eqb (s .answer) 2)
+        (cond b (record { key = t′ .key; answer = t′ .answer } ∷ ss) ss)
         + count (λ (u : Task). eqb (u .key) key && loaded u) (set ts i t′)
         + cond (eqb (t .key) key) (weight t) 0
         ≡ count (λ (s : Said). eqb (s .key) key && eqb (s .answer) 2) ss
@@ -223,8 +223,12 @@ pub give-tally :
     × (timesBusy key (set ts i t′) ≡ timesBusy key ts + bitOf (eqb (t′ .key) key))
 unfolding timesLoaded timesBusy
 give-tally key ts i t′ lt rest one = (
-  omega
-      (arith, count-set (λ (u : Task). eqb (u .key) key && loaded u) ts i t′ noTask lt, light (loaded-rest rest), light′),
+  omega (
+    arith,
+    count-set (λ (u : Task). eqb (u .key) key && loaded u) ts i t′ noTask lt,
+    light (loaded-rest rest),
+    light′,
+  ),
   omega (arith, count-set (λ (u : Task). eqb (u .key) key && busy u) ts i t′ noTask lt, idle (busy-rest rest), new),
 )
   where

@@ -7,7 +7,7 @@ use mathlib.Core.List.{List, [], _∷_}
 use lib.Dec.{eqb}
 use Rattle.rules.specs.declared.Task.{Task}
 use Rattle.rules.specs.Lists.{count, all}
-use Rattle.rules.specs.Answer.{Answer, Leaves, leaves}
+use Rattle.rules.specs.Answer.{Leaves, leaves}
 use Rattle.rules.specs.Record.{atRest}
 use Rattle.rules.specs.Give.{taskAt, give}
 use Rattle.rules.specs.Step.{Lent, step}

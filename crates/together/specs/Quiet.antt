@@ -50,7 +50,8 @@ ends-locked (ends-full n x y) = (locked-word x, locked-word y)
 ends-locked {ws = ws} {t = t} (ends-inserted n h side k x y) = end-locked ws side (t .left) (t .right) x y
 
 right-locked :
-    {sh : Shape} {ws : List Word} {shown : List Entry} {t : Task} → RightEnd sh ws shown t → at ws (t .right) .lock ≡ true
+    {sh : Shape} {ws : List Word} {shown : List Entry} {t : Task} → RightEnd sh ws shown t →
+    at ws (t .right) .lock ≡ true
 right-locked (right-found n h x) = locked-word x
 right-locked (right-full n x) = locked-word x
 right-locked (right-waiting n h x) = locked-word x
@@ -222,7 +223,11 @@ module _ {sh : Shape} {ws : List Word} {ts : List Task} {laid : List Word} {show
         record {
           plain = inv .plain;
           places = relocked-places ws p b lt ∙ inv .places;
-          small = λ q. subst (λ (n : ℕ). n < 4096) (sym (ap (λ (w : Word). w .remainder) (relocked-words ws p b lt q))) (inv .small q);
+          small = λ q.
+              subst
+              (λ (n : ℕ). n < 4096)
+              (sym (ap (λ (w : Word). w .remainder) (relocked-words ws p b lt q)))
+              (inv .small q);
           stage = stage;
           others = λ u a s. stage-stable relock-frame u (relock-alone u a s) (λ e. refl) s;
           apart = apart;
@@ -240,7 +245,10 @@ module _ {sh : Shape} {ws : List Word} {ts : List Task} {laid : List Word} {show
             (subst
             (Owns t′)
             (sym e)
-            (new (sym (ap (λ (w : Word). w .lock) (relocked-here ws p b lt)) ∙ ap (λ (r : ℕ). at (relocked ws p b lt) r .lock) (sym e) ∙ locked)))
+            (new
+            (sym (ap (λ (w : Word). w .lock) (relocked-here ws p b lt))
+            ∙ ap (λ (r : ℕ). at (relocked ws p b lt) r .lock) (sym e)
+            ∙ locked)))
         owner-at q locked (inr n) =
             inr (sym (ap (λ (w : Word). w .lock) (relocked-other ws p b lt q n)) ∙ locked, kept q n)
 

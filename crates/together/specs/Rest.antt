@@ -1,17 +1,16 @@
 -- A fair history when every task is idle or done: the words are those laid, each give has been answered, and where
 -- there was room the bytes are those of puts. The statements are in Demand3.
 -- Assumes nothing.
-use Prim.Native.Nat.{ℕ, zero, suc, _+_, _*_, _≤_, _<_}
+use Prim.Native.Nat.{ℕ, suc, _+_, _*_, _≤_, _<_}
 use mathlib.Core.Path.{_≡_, refl, sym, ap, ap₂, _∙_, subst}
 use mathlib.Core.Logic.{_⊎_, _≢_, inl, inr}
-use mathlib.Core.Bool.{Bool, true, false, not, cond, _&&_, _||_, true≢false, false≢true}
+use mathlib.Core.Bool.{Bool, true, false, not, _&&_, _||_, true≢false, false≢true}
 use mathlib.Core.List.{List, [], _∷_, _++_, map}
 use native.Mathlib.Omega.{arith}
-use lib.ListN.{length, getD}
-use lib.Dec.{eqb, leb, ltb}
-use borrow.Author.Tests.{eqb-true, eqb-false, eq-eqb, ne-eqb, le-leb, leb-true, lt-ltb, ltb-true, ltb-false}
+use lib.ListN.{length}
+use lib.Dec.{eqb, ltb}
+use borrow.Author.Tests.{eqb-true, lt-ltb, ltb-true}
 use Rattle.rules.specs.declared.Shape.{Shape}
-use Rattle.rules.specs.declared.Task.{Task}
 use Rattle.rules.specs.Lists.{bitOf, count, all, any}
 use Rattle.rules.specs.Word.{Word}
 use Rattle.rules.specs.Bytes.{wordsOf, bytesOf}
@@ -25,24 +24,24 @@ use Rattle.rules.specs.Give.{taskAt}
 use Rattle.words.specs.Range.{InRange, good-table, remainders-high}
 use Rattle.words.specs.Layout.{bytes-are, same-bytes}
 use Rattle.theory.specs.Run.{unlock}
-use Rattle.theory.specs.Perm as perm
-use Rattle.theory.specs.Perm.{All}
-use Rattle.theory.specs.Insert.{Within, same-refl, ascend-asc, holds-ascend, holds-append}
+use Rattle.theory.specs.Every as every
+use Rattle.theory.specs.Every.{All}
+use Rattle.theory.specs.Insert.{same-refl, ascend-asc, holds-ascend, holds-append}
 use Rattle.theory.specs.Dealt.{word-path, and-left, and-right, and-both, or-left, or-right}
 use Rattle.theory.specs.SoundTable.{table-entries}
 use Rattle.theory.specs.Keys.{listed}
-use Rattle.theory.specs.Building.{Roomy, Inside, subset-length}
+use Rattle.theory.specs.Building.{Inside, subset-length}
 use Rattle.demands.specs.Terms.{SoundTable, PlainTable, InKeys, entriesOf, listOf, distinct, putAll}
-use Rattle.demands.specs.Lent.{in-range-of, low-of, plain-of}
-use Rattle.demands.specs.Proof2.{same-split, split-keys, in-shape, listed-here, ascending-list}
+use Rattle.demands.specs.Lent.{plain-of}
+use Rattle.demands.specs.Proof2.{split-keys, in-shape, listed-here, ascending-list}
 use Rattle.demands.specs.Proof3.{listed-split, held-key, keys-roomy, all-both, map-both, put-all-plain}
 use Rattle.demands.specs.Proof3.{ascending-keys, all-within}
 use Rattle.demands.specs.Demand2.{puts-any-order}
-use Rattle.together.specs.Invariant.{Owns, Unfinished, Inv}
+use Rattle.together.specs.Invariant.{Unfinished}
 use Rattle.together.specs.Facts.{words-size, in-order}
 use Rattle.together.specs.Machine.{Said, World, timesGiven, timesSaid, timesInserted}
 use Rattle.together.specs.History.{quiet-counts}
-use Rattle.together.specs.Fair.{Means, means-full, means-shown, Spacious, NoneFull, Fair, rest-at, rest-owns}
+use Rattle.together.specs.Fair.{Means, means-full, means-shown, Spacious, Fair, rest-at, rest-owns}
 
 -- words that are the same at each place are the same
 words-path : (ws vs : List Word) → length ws ≡ length vs → ((p : ℕ) → at ws p ≡ at vs p) → ws ≡ vs
@@ -110,7 +109,7 @@ said-shown :
     All (λ (s : Said). s .answer ≢ 3) ss → 1 ≤ timesSaid key ss → holds (split sh key) shown ≡ true
 unfolding timesSaid count
 said-shown key [] ms ns le = absurd (omega arith)
-said-shown {sh} {shown} key (s ∷ ss) (perm.both x ms) (perm.both n ns) le =
+said-shown {sh} {shown} key (s ∷ ss) (every.both x ms) (every.both n ns) le =
     go (eqb (s .key) key) refl le (said-shown key ss ms ns)
   where
     here : Means sh shown s → s .key ≡ key → holds (split sh key) shown ≡ true
@@ -281,7 +280,12 @@ module _ {m r : ℕ} {start : List ℕ} {w : World} (t : PlainTable m r start) (
       -- each given key is shown
       given-shown : (x : ℕ) → listed x (w .given) ≡ true → holds (split (shapeOf m r) x) (f .shown) ≡ true
       given-shown x h =
-          said-shown x (w .said) (f .meaning) rest-none-full (omega (arith, rest-answers x, listed-times x (w .given) h))
+          said-shown
+          x
+          (w .said)
+          (f .meaning)
+          rest-none-full
+          (omega (arith, rest-answers x, listed-times x (w .given) h))
 
       pub rest-listed : (x : ℕ) → listed x (w .given) ≡ true → listed x (listOf m r (w .table)) ≡ true
       rest-listed x h =
@@ -299,8 +303,8 @@ module _ {m r : ℕ} {start : List ℕ} {w : World} (t : PlainTable m r start) (
               (ss : List Said) →
               All (Means (shapeOf m r) (f .shown)) ss →
               All (λ (s : Said). s .answer ≢ 3) ss → All (λ (s : Said). (s .answer ≡ 1) ⊎ (s .answer ≡ 2)) ss
-          go [] ms ns = perm.none
-          go (s ∷ ss) (perm.both x ms) (perm.both n ns) = perm.both (one s x n) (go ss ms ns)
+          go [] ms ns = every.none
+          go (s ∷ ss) (every.both x ms) (every.both n ns) = every.both (one s x n) (go ss ms ns)
 
       -- ---- the bytes
       -- the keys put, in the order in which they were
@@ -347,7 +351,8 @@ module _ {m r : ℕ} {start : List ℕ} {w : World} (t : PlainTable m r start) (
               (p g s : Bool) →
               holds e (f .put) ≡ p →
               listed x (w .given) ≡ g →
-              listed x (listOf m r start) ≡ s → (listed x (w .given) && not (listed x (listOf m r start))) ≡ holds e (f .put)
+              listed x (listOf m r start) ≡ s →
+              (listed x (w .given) && not (listed x (listOf m r start))) ≡ holds e (f .put)
           go true g s k l n =
               ap₂
               (λ (a b : Bool). a && not b)
@@ -358,7 +363,8 @@ module _ {m r : ℕ} {start : List ℕ} {w : World} (t : PlainTable m r start) (
           go false false s k l n = ap (λ (a : Bool). a && not (listed x (listOf m r start))) l ∙ sym k
 
       module _ (ks : List ℕ) (h : InKeys (shapeOf m r) ks)
-          (new : (x : ℕ) → x < keys (shapeOf m r) → listed x ks ≡ (listed x (w .given) && not (listed x (listOf m r start))))
+          (new :
+          (x : ℕ) → x < keys (shapeOf m r) → listed x ks ≡ (listed x (w .given) && not (listed x (listOf m r start))))
         where
           -- the starting keys and the new ones are no more than the starting keys and the given ones
           new-inside : Inside (ascend (entriesOf (shapeOf m r) (listOf m r start ++ ks))) us
@@ -447,5 +453,8 @@ module _ {m r : ℕ} {start : List ℕ} {w : World} (t : PlainTable m r start) (
               ∙ sym (f .chain)
               ∙ sym words-laid)
             where
-              done : PlainTable m r (putAll m r start js) × (wordsOf (putAll m r start js) ≡ puts (shapeOf m r) (wordsOf start) (entriesOf (shapeOf m r) js))
+              done :
+                  PlainTable m r (putAll m r start js)
+                  × (wordsOf (putAll m r start js)
+                  ≡ puts (shapeOf m r) (wordsOf start) (entriesOf (shapeOf m r) js))
               done = put-all-plain js t (put-back .1)

@@ -1,7 +1,7 @@
 -- Steps that write between their own ends (phases 8, 9 and 10): what they leave to the other tasks, and the moves and
 -- the mark.
 -- Assumes nothing.
-use Prim.Native.Nat.{ℕ, _-_, _≤_, _<_}
+use Prim.Native.Nat.{ℕ, _≤_, _<_}
 use mathlib.Core.Path.{_≡_, refl, sym, ap, _∙_, subst}
 use mathlib.Core.Logic.{_⊎_, _≢_, inl, inr}
 use mathlib.Core.Bool.{false, true≢false}

@@ -70,7 +70,8 @@ inv-update {sh} {ws} {ts} {laid} {shown} i {t′} {ws′} {laid′} {shown′} l
       stage = λ j l. stage-at j (under j l) (same-or-not i j);
       apart = λ j k l m n. apart-at j k (under j l) (under k m) n (same-or-not i j) (same-or-not i k);
       owner = λ p locked. owner-at p (s .owner p locked);
-      settled = λ p none. s .settled p (own p none) (λ j l n x. none j (over j l) (there (λ (t : Task). Unfinished t p) j n x));
+      settled = λ p none.
+          s .settled p (own p none) (λ j l n x. none j (over j l) (there (λ (t : Task). Unfinished t p) j n x));
     }
   where
     under : (j : ℕ) → j < length (set ts i t′) → j < length ts

@@ -48,19 +48,22 @@ abbrev pub weight : Task → ℕ
 weight t = bitOf (within 9 10 (t .phase) || (within 11 13 (t .phase) && eqb (t .answer) 2))
 
 -- what a step does to the table laid: nothing, or its key is put
-pub data Effect (sh : Shape) (t t′ : Task) (laid : List Word) (shown : List Entry) : List Word → List Entry → Type 0 where
+pub data Effect (sh : Shape) (t t′ : Task) (laid : List Word) (shown : List Entry)
+    : List Word → List Entry → Type 0 where
   keeps : weight t′ ≡ weight t → Effect sh t t′ laid shown laid shown
   commits :
       holds (split sh (t .key)) shown ≡ false →
       weight t ≡ 0 →
-      weight t′ ≡ 1 → Effect sh t t′ laid shown (after-put sh laid (split sh (t .key))) (insert (split sh (t .key)) shown)
+      weight t′ ≡ 1 →
+      Effect sh t t′ laid shown (after-put sh laid (split sh (t .key))) (insert (split sh (t .key)) shown)
 
 -- what a done task's answer means: full, or found or inserted with its key shown
 pub data Answered (sh : Shape) (shown : List Entry) (t : Task) : Type 0 where
   says-full : t .answer ≡ 3 → Answered sh shown t
   says-shown : (t .answer ≡ 1) ⊎ (t .answer ≡ 2) → holds (split sh (t .key)) shown ≡ true → Answered sh shown t
 
-pub record Walked (sh : Shape) (ws : List Word) (ts : List Task) (laid : List Word) (shown : List Entry) (i : ℕ) : Type 0 where
+pub record Walked (sh : Shape) (ws : List Word) (ts : List Task) (laid : List Word) (shown : List Entry) (i : ℕ)
+    : Type 0 where
   pub next : Task
   pub words : List Word
   pub laid-after : List Word
@@ -206,7 +209,8 @@ module _ {sh : Shape} {ws : List Word} {ts : List Task} {laid : List Word} {show
         1 ≤ n →
         n ≤ 12 →
         taskAt ts i .phase ≡ n →
-        {t′ : Task} {ws′ : List Word} → byNumber n sh ws (taskAt ts i) ≡ to t′ ws′ → stepOf sh ws (taskAt ts i) ≡ steps t′ ws′
+        {t′ : Task} {ws′ : List Word} → byNumber n sh ws (taskAt ts i) ≡ to t′ ws′ →
+        stepOf sh ws (taskAt ts i) ≡ steps t′ ws′
     unfolding stepOf ofPhase
     step-by n a b e due =
         rw (
@@ -311,7 +315,8 @@ module _ {sh : Shape} {ws : List Word} {ts : List Task} {laid : List Word} {show
 
     -- ---- phase 2
     pub walk-left-on :
-        t .phase ≡ 2 → t .key < keys sh → LookedLeft sh ws t → at ws (t .left) .occupied ≡ true → Walked sh ws ts laid shown i
+        t .phase ≡ 2 → t .key < keys sh → LookedLeft sh ws t → at ws (t .left) .occupied ≡ true →
+        Walked sh ws ts laid shown i
     unfolding phase.lookLeft homePlace
     walk-left-on p k x taken =
         record {
@@ -331,11 +336,6 @@ module _ {sh : Shape} {ws : List Word} {ts : List Task} {laid : List Word} {show
         next : Task
         next = withLeft (t .left - 1) t
 
-        no-guard : t .left ≢ 0
-        no-guard e =
-            true≢false
-            (sym taken ∙ ap (λ (q : ℕ). at ws q .occupied) e ∙ sym (occupied-at ws 0) ∙ guards-free low inv .left)
-
         near : LookedLeft sh ws next
         near =
             record {
@@ -348,7 +348,8 @@ module _ {sh : Shape} {ws : List Word} {ts : List Task} {laid : List Word} {show
             go q b (inr n) a = x .taken q (omega arith) b
 
     pub walk-left-stop :
-        t .phase ≡ 2 → t .key < keys sh → LookedLeft sh ws t → at ws (t .left) .occupied ≡ false → Walked sh ws ts laid shown i
+        t .phase ≡ 2 → t .key < keys sh → LookedLeft sh ws t → at ws (t .left) .occupied ≡ false →
+        Walked sh ws ts laid shown i
     unfolding phase.lookLeft homePlace rightGuard
     walk-left-stop p k x free =
         record {
@@ -382,7 +383,8 @@ module _ {sh : Shape} {ws : List Word} {ts : List Task} {laid : List Word} {show
 
     -- ---- phase 3
     pub walk-right-on :
-        t .phase ≡ 3 → t .key < keys sh → Looked sh ws t → at ws (t .right) .occupied ≡ true → Walked sh ws ts laid shown i
+        t .phase ≡ 3 → t .key < keys sh → Looked sh ws t → at ws (t .right) .occupied ≡ true →
+        Walked sh ws ts laid shown i
     unfolding phase.lookRight homePlace rightGuard
     walk-right-on p k x taken =
         record {
@@ -426,7 +428,8 @@ module _ {sh : Shape} {ws : List Word} {ts : List Task} {laid : List Word} {show
             go q a (inr n) b = x .taken q a (omega arith)
 
     pub walk-right-stop :
-        t .phase ≡ 3 → t .key < keys sh → Looked sh ws t → at ws (t .right) .occupied ≡ false → Walked sh ws ts laid shown i
+        t .phase ≡ 3 → t .key < keys sh → Looked sh ws t → at ws (t .right) .occupied ≡ false →
+        Walked sh ws ts laid shown i
     unfolding phase.lookRight
     walk-right-stop p k x free =
         record {
@@ -476,7 +479,8 @@ module _ {sh : Shape} {ws : List Word} {ts : List Task} {laid : List Word} {show
     zero-alone p z u a s o = true≢false (sym (owned-locked p s o) ∙ ap (λ (w : Word). w .lock) z)
 
     pub walk-lock-left :
-        t .phase ≡ 4 → t .key < keys sh → Looked sh ws t → isZero (at ws (t .left)) ≡ true → Walked sh ws ts laid shown i
+        t .phase ≡ 4 → t .key < keys sh → Looked sh ws t → isZero (at ws (t .left)) ≡ true →
+        Walked sh ws ts laid shown i
     unfolding phase.lockLeft relocked
     walk-lock-left p k x is-zero =
         record {

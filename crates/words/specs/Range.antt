@@ -45,10 +45,6 @@ good-table sh n e =
     (in-range sh range, eqb-true n (2 * places sh) size)
 
 module _ (sh : Shape) where
-  pub some-homes : 0 < homes sh
-  unfolding homes
-  some-homes = pow-pos (sh .m)
-
   pub some-remainders : 0 < remainders sh
   unfolding remainders
   some-remainders = pow-pos (sh .r)

@@ -1,6 +1,6 @@
--- `give_all` meets its contract: a walk of its MIR, by hand. Where there are at most sixteen, the first n records of the
--- local array are lent for a lifetime that is made for the call of `give`, and come back; else `give_none` answers. Of
--- both it knows the contract only.
+-- `give_all` meets its contract: a walk of its MIR, by hand. Where there are at most sixteen, the first n records of
+-- the local array are lent for a lifetime that is made for the call of `give`, and come back; else `give_none` answers.
+-- Of both it knows the contract only.
 -- Assumes nothing.
 use mathlib.Core.Path.{_≡_, refl, sym, subst}
 use Prim.Native.Nat.{ℕ, _≤_, _<_, _^_}
