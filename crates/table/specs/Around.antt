@@ -2,8 +2,8 @@
 -- `alone-sound`, `alone-locked`, the same of an empty home. `Open`: they are sound and unlocked; `cluster-inside`,
 -- `beside-cluster`, `read-cluster`: then the cluster stands in the table, and a read from its left end reads its keys.
 -- Assumes nothing.
-use Prim.Native.Nat.{ℕ, suc, _+_, _*_, _<_}
-use mathlib.Core.Path.{_≡_, refl, _∙_, ap}
+use Prim.Native.Nat.{ℕ, suc, _+_, _*_, _≤_, _<_}
+use mathlib.Core.Path.{_≡_, refl, sym, _∙_, ap, ap₂}
 use mathlib.Core.Bool.{Bool, true, false, _&&_, _||_}
 use mathlib.Core.List.{List, []}
 use native.Mathlib.Numerals.{add-one}
@@ -22,16 +22,18 @@ use Rattle.rules.specs.Find.{around, soundAround, lockedAround}
 use Rattle.words.specs.Range.{InRange, homes-high}
 use Rattle.words.specs.Layout.{words-length}
 use Rattle.theory.specs.Gaps.{HomePlace}
-use Rattle.theory.specs.Dealt.{and-left, and-right}
+use Rattle.theory.specs.Dealt.{isVirgin, isChange, and-left, and-right}
 use Rattle.theory.specs.Cut.{CutHome, cut-home}
 use Rattle.theory.specs.Places.{occupied-at, occupied-length, void-free}
 use Rattle.cluster.specs.Homes.{Housed, sound-housed}
 use Rattle.cluster.specs.Scan.{left-stop, right-stop}
 use Rattle.cluster.specs.Read.{readOf}
-use Rattle.cluster.specs.Ends.{leftEnd}
+use Rattle.cluster.specs.Ends.{leftEnd, rightEnd}
 use Rattle.cluster.specs.Beside.{Beside, readFrom, read-from, housed-beside}
 use Rattle.cluster.specs.Check.{checkOf, soundBetween}
 use Rattle.cluster.specs.declared.gaps.End.{End}
+use Rattle.cluster.specs.declared.read.Read.{Read}
+use Rattle.cluster.specs.declared.run.Check.{Check}
 
 -- the surroundings are sound and unlocked
 pub record Open (sh : Shape) (ws : List Word) (home : ℕ) : Type 0 where
@@ -144,10 +146,18 @@ module _ {sh : Shape} (bs : List ℕ) (e : Entry) (range : InRange sh) (even : l
     unfolding places
     small = omega (arith, i .low, homes-high sh range)
 
-    pub read-cluster : readFrom bs l e ≡ readOf e (clusterEntries (wordsOf bs) (e .home))
+    read-cluster : readFrom bs l e ≡ readOf e (clusterEntries (wordsOf bs) (e .home))
     unfolding clusterEntries
     read-cluster =
         read-from e bs l r (i .after) (i .before) (omega (arith, within)) (omega (arith, small)) (i .housed)
+
+    -- the same of a read from the left end that was found
+    pub read-beside :
+        (end : End) (read : Read) → end ≡ leftEnd (wordsOf bs) (e .home) → read ≡ readFrom bs (end .gap .0) e →
+        read ≡ readOf e (clusterEntries (wordsOf bs) (e .home))
+    unfolding leftEnd
+    read-beside end read is reads =
+        reads ∙ ap (λ (a : End). readFrom bs (a .gap .0) e) is ∙ read-cluster
 
     pub beside-cluster : (end : End) → end ≡ leftEnd (wordsOf bs) (e .home) → Beside bs end (e .home)
     unfolding leftEnd
@@ -166,3 +176,82 @@ module _ {sh : Shape} (bs : List ℕ) (e : Entry) (range : InRange sh) (even : l
         (ap (λ (a : End). a .gap .0) is)
         (ap (λ (a : End). a .virgins) is ∙ rw add-one)
         (ap (λ (a : End). a .changes) is ∙ rw add-one)
+
+-- ---- an occupied home between void guards, as find and put come to it: what they ask for, and what the check tells
+pub record Crowded (sh : Shape) (bs : List ℕ) (home : ℕ) : Type 0 where
+  pub range : InRange sh
+  pub even : length bs ≡ 2 * places sh
+  pub home-place : HomePlace sh home
+  pub void : guardsVoid sh (wordsOf bs) ≡ true
+  pub full : at (wordsOf bs) home .occupied ≡ true
+
+module _ {sh : Shape} {bs : List ℕ} {home : ℕ} (c : Crowded sh bs home) where
+  size : length (wordsOf bs) ≡ places sh
+  size = words-length bs (places sh) (c .even)
+
+  cut : CutHome (wordsOf bs) home
+  cut = cluster-cut size (c .home-place) (c .full) (c .void)
+
+  pub home-inside : 2 * home + 1 < length bs
+  unfolding places
+  home-inside = omega (arith, c .even, c .home-place .last)
+
+  pub left-open : at (wordsOf bs) 0 .occupied ≡ false
+  left-open = left-free sh (wordsOf bs) (c .void)
+
+  pub table-small : length bs ≤ 2097156
+  unfolding places
+  table-small = omega (arith, c .even, homes-high sh (c .range))
+
+  pub gap-inside : 2 * rightGap (occupied (wordsOf bs)) home + 1 < length bs
+  gap-inside = omega (arith, cut .inside, size, c .even)
+
+  module _ (l r : End) (left : l ≡ leftEnd (wordsOf bs) home) (right : r ≡ rightEnd (wordsOf bs) home) where
+    left-gap : l .gap .0 ≡ leftGap (occupied (wordsOf bs)) home
+    unfolding leftEnd
+    left-gap = ap (λ (a : End). a .gap .0) left
+
+    right-gap : r .gap .0 ≡ rightGap (occupied (wordsOf bs)) home
+    unfolding rightEnd
+    right-gap = ap (λ (a : End). a .gap .0) right
+
+    pub ends-apart : l .gap .0 < r .gap .0
+    ends-apart = omega (arith, left-gap, right-gap, cut .after, cut .before)
+
+    pub end-inside : 2 * r .gap .0 + 1 < length bs
+    end-inside = omega (arith, right-gap, gap-inside)
+
+    pub virgins-counted : r .virgins ≡ count isVirgin (between (wordsOf bs) (l .gap .0) (r .gap .0))
+    unfolding rightEnd
+    virgins-counted = rw (left-gap, right-gap) (ap (λ (a : End). a .virgins) right)
+
+    pub changes-counted : r .changes ≡ count isChange (between (wordsOf bs) (l .gap .0) (r .gap .0))
+    unfolding rightEnd
+    changes-counted = rw (left-gap, right-gap) (ap (λ (a : End). a .changes) right)
+
+    checked :
+        (run : Check) → run ≡ checkOf sh (wordsOf bs) (l .gap .0) (r .gap .0) →
+        run ≡ record { sound = soundAround sh (wordsOf bs) home; locked = lockedAround (wordsOf bs) home }
+    checked run is =
+        is
+        ∙ ap₂ (checkOf sh (wordsOf bs)) left-gap right-gap
+        ∙ around-check sh (wordsOf bs) home (c .void)
+
+    pub told-sound :
+        (run : Check) → run ≡ checkOf sh (wordsOf bs) (l .gap .0) (r .gap .0) →
+        run .sound ≡ soundAround sh (wordsOf bs) home
+    told-sound run is = ap (λ (a : Check). a .sound) (checked run is)
+
+    pub told-locked :
+        (run : Check) → run ≡ checkOf sh (wordsOf bs) (l .gap .0) (r .gap .0) →
+        run .locked ≡ lockedAround (wordsOf bs) home
+    told-locked run is = ap (λ (a : Check). a .locked) (checked run is)
+
+    pub told-open :
+        (run : Check) → run ≡ checkOf sh (wordsOf bs) (l .gap .0) (r .gap .0) → run .sound ≡ true →
+        run .locked ≡ false → Open sh (wordsOf bs) home
+    told-open run is sound free =
+        record { sound = sym (told-sound run is) ∙ sound; free = sym (told-locked run is) ∙ free }
+
+  pub crowded-inside : Open sh (wordsOf bs) home → Inside sh (wordsOf bs) home
+  crowded-inside o = cluster-inside size (c .home-place) (c .full) o

@@ -26,7 +26,7 @@ use Rattle.rules.specs.Put.{enlargedFrom, addAt, Outcome, keeps, writes, addTo,
 use Rattle.rules.specs.Phase.{aloneWord, smaller, markOf}
 use Rattle.words.specs.Range.{InRange, remainders-high}
 use Rattle.words.specs.Split.{InShape}
-use Rattle.words.specs.Layout.{same-bytes, bytes-are, words-length}
+use Rattle.words.specs.Layout.{same-bytes, bytes-are}
 use Rattle.words.specs.declared.place.Place.{Place}
 use Rattle.theory.specs.Gaps as gaps
 use Rattle.theory.specs.Places.{occupied-at}
@@ -35,10 +35,9 @@ use Rattle.theory.specs.Moving.{Addable, add-moves, room-alone, add-alone}
 use Rattle.cluster.specs.declared.read.Read.{Read}
 use Rattle.cluster.specs.Read.{readOf}
 use Rattle.cluster.specs.Ends.{leftEnd}
-use Rattle.cluster.specs.Beside.{readFrom}
 use Rattle.cluster.specs.declared.gaps.End.{End}
 use Rattle.table.specs.Around.{Open, open-guards, around-barred, alone-sound, alone-locked, alone-entries}
-use Rattle.table.specs.Around.{Inside, cluster-inside, read-cluster}
+use Rattle.table.specs.Around.{Inside, cluster-inside}
 use Rattle.table.specs.Count.{count-few}
 use Rattle.table.specs.Key.{home-place}
 
@@ -216,20 +215,16 @@ module _ {sh : Shape} {ws : List Word} {e : Entry} {l : Place} {read : Read} (g 
 
 -- a read of the cluster that does not find the key makes it ready
 pub ready :
-    (sh : Shape) (bs : List ℕ) (e : Entry) {l : End} {read : Read} →
-    InRange sh → InShape sh e → length bs ≡ 2 * places sh → Open sh (wordsOf bs) (e .home) →
-    at (wordsOf bs) (e .home) .occupied ≡ true → l ≡ leftEnd (wordsOf bs) (e .home) →
-    read ≡ readFrom bs (leftGap (occupied (wordsOf bs)) (e .home)) e → read .held ≡ false →
-    Ready sh (wordsOf bs) e (l .gap) read
+    (sh : Shape) (ws : List Word) (e : Entry) {l : End} {read : Read} →
+    InRange sh → InShape sh e → length ws ≡ places sh → Open sh ws (e .home) → at ws (e .home) .occupied ≡ true →
+    l ≡ leftEnd ws (e .home) → read ≡ readOf e (clusterEntries ws (e .home)) → read .held ≡ false →
+    Ready sh ws e (l .gap) read
 unfolding readOf leftEnd
-ready sh bs e range i even o full end is new =
-    let size = words-length bs (places sh) even in
-    let here = cluster-inside size (home-place i) full o in
-    let reads = is ∙ read-cluster bs e range even here in
+ready sh ws e range i size o full end reads new =
     record {
       addable = addable range i size o (sym (ap (λ (a : Read). a .held) reads) ∙ new);
       full = full;
       left = ap (λ (a : End). a .gap .0) end;
-      inside = here;
+      inside = cluster-inside size (home-place i) full o;
       read-is = reads;
     }

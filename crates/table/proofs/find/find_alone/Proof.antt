@@ -1,30 +1,28 @@
+-- `find_alone` meets its contract: its tests, one by one.
+-- Assumes nothing.
+use mathlib.Core.Path.{sym, _∙_}
 use borrow.Author.Needs.{needs}
 use Rattle.table.proofs.find.find_alone.Statement.{statement}
 use Rattle.table.proofs.find.find_alone.Tie as tie
-use Rattle.table.proofs.find.find_alone.Reads as reads
-use Rattle.table.proofs.find.find_alone.Lts as lts
-use Rattle.words.proofs.word.is_void.Reads as is-void-reads
-use Rattle.words.proofs.word.lock.Reads as lock-reads
 
--- src/find.rt:44:8
 is-void-requires : tie.Need-is-void-requires
 is-void-requires c κs = search needs
 
--- src/find.rt:45:12
 lock-requires : tie.Need-lock-requires
 lock-requires c κs = search needs
 
--- src/find.rt:41:1
 returns : tie.Need-returns
-returns c = ?
+returns c =
+    let void = c .before .before in
+    rw (sym (void .before .is-void .ensures) ∙ void .if1 .taken, sym (c .before .lock .ensures) ∙ c .if2 .taken)
 
--- src/find.rt:41:1
 returns-2 : tie.Need-returns-2
-returns-2 c = ?
+returns-2 c =
+    let void = c .before .before in
+    rw (sym (void .before .is-void .ensures) ∙ void .if1 .taken, sym (c .before .lock .ensures) ∙ c .if2 .left)
 
--- src/find.rt:41:1
 returns-3 : tie.Need-returns-3
-returns-3 c = ?
+returns-3 c = rw (sym (c .before .is-void .ensures) ∙ c .if1 .left)
 
 pub find-alone-spec : {M : Type 1} → statement M
 find-alone-spec = tie.close (tie.spec is-void-requires lock-requires returns returns-2 returns-3)

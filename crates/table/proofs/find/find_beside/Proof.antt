@@ -1,26 +1,23 @@
+-- `find_beside` meets its contract: the read tells whether the key is held.
+-- Assumes nothing.
+use mathlib.Core.Path.{sym, _∙_, ap}
 use borrow.Author.Needs.{needs}
+use Rattle.cluster.specs.declared.read.Read.{Read}
+use Rattle.cluster.specs.Beside.{begins}
 use Rattle.table.proofs.find.find_beside.Statement.{statement}
 use Rattle.table.proofs.find.find_beside.Tie as tie
-use Rattle.table.proofs.find.find_beside.Reads as reads
-use Rattle.table.proofs.find.find_beside.Lts as lts
-use Rattle.cluster.proofs.read.group_start.Reads as group-start-reads
-use Rattle.cluster.proofs.read.read_from.Reads as read-from-reads
 
--- src/find.rt:61:9
 group-start-requires : tie.Need-group-start-requires
 group-start-requires c κs = search needs
 
--- src/find.rt:62:9
 read-from-requires : tie.Need-read-from-requires
-read-from-requires c κs = ?
+read-from-requires c κs = begins (c .before .before .pre) (c .group-start .result .0) (c .group-start .ensures)
 
--- src/find.rt:56:1
 returns : tie.Need-returns
-returns c = ?
+returns c = rw (sym (ap (λ (a : Read). a .held) (c .before .read-from .ensures)) ∙ c .if1 .taken)
 
--- src/find.rt:56:1
 returns-2 : tie.Need-returns-2
-returns-2 c = ?
+returns-2 c = rw (sym (ap (λ (a : Read). a .held) (c .before .read-from .ensures)) ∙ c .if1 .left)
 
 pub find-beside-spec : {M : Type 1} → statement M
 find-beside-spec = tie.close (tie.spec group-start-requires read-from-requires returns returns-2)

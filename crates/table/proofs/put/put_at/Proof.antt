@@ -1,57 +1,97 @@
+-- `put_at` meets its contract: the guards decide, then the home.
+-- Assumes nothing.
+use mathlib.Core.Path.{_≡_, sym, _∙_, ap}
+use mathlib.Core.Bool.{Bool}
 use borrow.Author.Needs.{needs}
+use native.Mathlib.Omega.{arith}
+use denote.Ref.{now}
+use Rattle.rules.specs.Bytes.{wordsOf}
+use Rattle.rules.specs.Shape.{places}
+use Rattle.rules.specs.Table.{at}
+use Rattle.words.specs.Range.{remainders-high}
+use Rattle.words.specs.Layout.{words-length}
+use Rattle.theory.specs.Dealt.{isOccupied}
+use Rattle.cluster.specs.Read.{entry}
+use Rattle.table.specs.Putting.{put-barred, put-empty}
 use Rattle.table.proofs.put.put_at.Statement.{statement}
 use Rattle.table.proofs.put.put_at.Tie as tie
-use Rattle.table.proofs.put.put_at.Reads as reads
-use Rattle.table.proofs.put.put_at.Lts as lts
-use Rattle.cluster.proofs.guards.guards_void.Reads as guards-void-reads
-use Rattle.table.proofs.put.put_cluster.Reads as put-cluster-reads
-use Rattle.table.proofs.put.put_empty.Reads as put-empty-reads
-use Rattle.words.proofs.bytes.word_at.Reads as word-at-reads
-use Rattle.words.proofs.word.occupied.Reads as occupied-reads
 
--- src/put.rt:168:8
+-- the home's bit, as it was tested
+home-bit :
+    (tested : tie.After-occupied) (b : Bool) → tested .occupied .result ≡ b →
+    let start = tested .before .before .before .before .before .before .before in
+    at (wordsOf (now (start .args .table))) (start .args .home .0) .occupied ≡ b
+home-bit tested b is =
+    sym (ap isOccupied (tested .before .word-at .ensures)) ∙ sym (tested .occupied .ensures) ∙ is
+
 guards-void-requires : tie.Need-guards-void-requires
 guards-void-requires c κs = search needs
 
--- src/put.rt:169:13
 word-at-requires : tie.Need-word-at-requires
-word-at-requires c κs = ?
+unfolding places
+word-at-requires c κs =
+    let start = c .before .before .before .before .before in
+    omega (arith, start .pre .1 .0, start .pre .1 .1 .home-high)
 
--- src/put.rt:170:12
 occupied-requires : tie.Need-occupied-requires
 occupied-requires c κs = search needs
 
--- src/put.rt:171:13
 put-cluster-requires : tie.Need-put-cluster-requires
-put-cluster-requires c κs = ?
+put-cluster-requires c κs =
+    let full = c .before in
+    let guarded = full .before .before .before .before in
+    let start = guarded .before .before .before .before in
+    let void = sym (guarded .before .guards-void .ensures) ∙ guarded .if1 .taken in
+    (start .pre .0, (start .pre .1 .0, (start .pre .1 .1, (void, home-bit (full .before) _ (full .if2 .taken)))))
 
--- src/put.rt:171:13
 same-length : tie.Need-same-length
 same-length c = search needs
 
--- src/put.rt:171:13
 returns : tie.Need-returns
 returns c = search needs
 
--- src/put.rt:173:13
 put-empty-requires : tie.Need-put-empty-requires
-put-empty-requires c κs = ?
+unfolding places
+put-empty-requires c κs =
+    let start = c .before .before .before .before .before .before .before .before .before in
+    let i = start .pre .1 .1 in
+    omega (arith, start .pre .1 .0, i .home-high, i .remainder-low, remainders-high (start .args .sh) (start .pre .0))
 
--- src/put.rt:173:13
 same-length-2 : tie.Need-same-length-2
 same-length-2 c = search needs
 
--- src/put.rt:173:13
 returns-2 : tie.Need-returns-2
-returns-2 c = ?
+returns-2 c =
+    let put = c .before .before in
+    let empty = put .before .before in
+    let guarded = empty .before .before .before .before in
+    let start = guarded .before .before .before .before in
+    rw
+    (put-empty
+    _
+    _
+    (entry (start .args .home .0) (start .args .x))
+    (start .pre .0)
+    (start .pre .1 .1)
+    (words-length (now (start .args .table)) (places (start .args .sh)) (start .pre .1 .0))
+    (sym (guarded .before .guards-void .ensures) ∙ guarded .if1 .taken)
+    (home-bit (empty .before) _ (empty .if2 .left)))
+    (put .put-empty .ensures)
 
--- src/put.rt:176:9
 same-length-3 : tie.Need-same-length-3
 same-length-3 c = search needs
 
--- src/put.rt:176:9
 returns-3 : tie.Need-returns-3
-returns-3 c = ?
+returns-3 c =
+    let start = c .before .before .before .before in
+    rw (put-barred
+    _
+    _
+    (entry (start .args .home .0) (start .args .x))
+    (start .pre .0)
+    (start .pre .1 .1)
+    (words-length (now (start .args .table)) (places (start .args .sh)) (start .pre .1 .0))
+    (sym (c .before .guards-void .ensures) ∙ c .if1 .left))
 
 pub put-at-spec : {M : Type 1} → statement M
 put-at-spec =
