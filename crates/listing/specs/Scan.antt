@@ -1,4 +1,4 @@
--- The occupied words of a table from place to place: a step and the end of their count and of the search for the next.
+-- The occupied words of a table from place to place: a step and the end of the search for the next one.
 -- One turn of the listing: the next occupied word has the next entry, `next-entry`, and the others stay, `next-left`.
 -- Assumes nothing.
 use Prim.Native.Nat.{ℕ, zero, suc, _+_, _-_, _*_, _≤_, _<_}
@@ -10,7 +10,7 @@ use native.Mathlib.Nat.{add-zero}
 use native.Mathlib.Omega.{arith}
 use lib.ListN.{length}
 use lib.Seq.{slice, take-all}
-use Rattle.rules.specs.Lists.{bitOf, count}
+use Rattle.rules.specs.Lists.{bitOf}
 use Rattle.rules.specs.Word.{Word, wordOf}
 use Rattle.rules.specs.Bytes.{wordsOf}
 use Rattle.rules.specs.Entry.{Entry}
@@ -24,19 +24,6 @@ use Rattle.listing.specs.Queue.{dealOccupied, queue-taken, queue-free}
 -- all the words of a table
 pub whole-table : (bs : List ℕ) (r n : ℕ) → length bs ≡ 2 * n → r ≡ n → slice 0 r (wordsOf bs) ≡ wordsOf bs
 whole-table bs r n size end = take-all r (wordsOf bs) (omega (arith, words-length bs n size))
-
--- ---- how many are left
-module _ (bs : List ℕ) (i r : ℕ) where
-  pub counted :
-      (w : ℕ) (b : Bool) →
-      i < r → 2 * r ≤ length bs → wordOf w ≡ at (wordsOf bs) i → b ≡ wordOf w .occupied →
-      count isOccupied (slice i r (wordsOf bs)) ≡ bitOf b + count isOccupied (slice (i + 1) r (wordsOf bs))
-  unfolding count
-  counted w b lt within word test = rw (run-step bs i r lt within, test, word)
-
-  pub counted-end : r ≤ i → count isOccupied (slice i r (wordsOf bs)) ≡ 0
-  unfolding count
-  counted-end h = rw (run-end bs i r h)
 
 -- ---- the next one
 -- the first occupied place from place p on, where ws are the words from there on: the end if there is none

@@ -1,4 +1,4 @@
-// The keys of a sound table, counted and written from left to right. All groups of the table take their homes from one
+// The keys of a sound table, written from left to right. All groups of the table take their homes from one
 // queue: one cursor goes through the occupied words and one through the virgin bits, and both only to the right.
 use cluster::read::next_virgin;
 use rules::Shape;
@@ -10,18 +10,15 @@ use words::word::change;
 use words::word::occupied;
 use words::word::remainder;
 ghost use mathlib.Core.Path.{_≡_};
-ghost use mathlib.Core.Bool.{true};
 ghost use Prim.Native.Nat.{_+_, _*_, _≤_, _<_};
 ghost use lib.ListN.{length};
-ghost use lib.Seq.{slice};
-ghost use Rattle.rules.specs.Lists.{bitOf, count};
+ghost use Rattle.rules.specs.Lists.{bitOf};
 ghost use Rattle.rules.specs.Word.{wordOf};
 ghost use Rattle.rules.specs.Bytes.{wordsOf};
 ghost use Rattle.rules.specs.Shape.{places};
-ghost use Rattle.rules.specs.Table.{list, sound};
+ghost use Rattle.rules.specs.Table.{list};
 ghost use Rattle.rules.specs.Listing.{atFront};
 ghost use Rattle.words.specs.Range.{InRange};
-ghost use Rattle.theory.specs.Dealt.{isOccupied};
 ghost use Rattle.listing.specs.Scan.{occupiedFrom};
 ghost use Rattle.listing.specs.Write.{Listable};
 
@@ -31,31 +28,6 @@ pub fn end_of(sh: Shape) -> Place
     ensures { λ p. ⌜ p .0 ≡ places sh ⌝ }
 {
     Place(homes(sh) + 2)
-}
-
-// The occupied ones among the first places, up to r and without it.
-fn count_occupied(table: &[u8], r: Place) -> u32
-    requires { ⌜ 2 * r .0 ≤ length (now table) ⌝ }
-    ensures { λ n. ⌜ n ≡ count isOccupied (slice 0 (r .0) (wordsOf (now (table .entry)))) ⌝ }
-{
-    let end = r.0;
-    let mut n: u32 = 0;
-    let mut i: u32 = 0;
-    while i < end {
-        if occupied(word_at(table, Place(i))) {
-            n += 1;
-        }
-        i += 1;
-    }
-    n
-}
-
-// A sound table has one key for each occupied word.
-pub fn count_keys(sh: Shape, table: &[u8]) -> usize
-    requires { ⌜ InRange sh ⌝ ∗ ⌜ length (now table) ≡ 2 * places sh ⌝ ∗ ⌜ sound sh (wordsOf (now table)) ≡ true ⌝ }
-    ensures { λ n. ⌜ n ≡ length (list sh (wordsOf (now (table .entry)))) ⌝ }
-{
-    count_occupied(table, end_of(sh)) as usize
 }
 
 // The first occupied place from p on, up to r: the end if there is none.
