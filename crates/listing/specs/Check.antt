@@ -1,5 +1,5 @@
--- A whole table in two passes, for any words: `tidy`, each word held against the next one, and `evenGaps`, as many homes
--- as groups at each gap; the laws of the two loops; and both passes over a cluster and its gap, `fine-cluster`.
+-- A whole table in two passes, for any words: `tidy`, each word held against the next one, and `evenGaps`, as many
+-- homes as groups at each gap; the laws of the two loops; both passes over a cluster and its gap, `fine-cluster`.
 -- Assumes nothing.
 use Prim.Native.Nat.{ℕ, zero, suc, _+_, _-_, _*_, _≤_, _<_}
 use mathlib.Core.Path.{_≡_, refl, sym, ap, _∙_}
@@ -66,7 +66,7 @@ pub order-begins : (sh : Shape) (ws : List Word) → ordered sh true 0 ws ≡ or
 unfolding ordered orderOf wordOf
 order-begins sh ws = rw (lt-ltb 0 (remainders sh) (some-remainders sh))
 
-pub order-word :
+order-word :
     (sh : Shape) (up : Bool) (over w : ℕ) (v : Word) (ws : List Word) → over < 65536 → w < 65536 →
     ordered sh up over (wordOf w ∷ v ∷ ws) ≡ ordered sh (up && stands (wordOf w) v) (bitOr over w) (v ∷ ws)
 unfolding ordered tidy all locked any

@@ -1,10 +1,10 @@
 // The whole table checked in two passes (01, Shape and layout), each without a branch in its loop: the first holds each
 // word against the next and is made for vector units, the second counts homes, groups and keys from gap to gap.
-use crate::keys::end_of;
 use cluster::guards::guards_void;
 use rules::Shape;
 use words::bytes::word_at;
 use words::place::Place;
+use words::shape::homes;
 use words::shape::remainders;
 use words::word::change;
 use words::word::is_void;
@@ -39,6 +39,14 @@ pub struct Check {
     pub sound: bool,
     pub locked: bool,
     pub keys: u32,
+}
+
+// The place after the right guard: as many places as there are.
+fn end_of(sh: Shape) -> Place
+    requires { ⌜ InRange sh ⌝ }
+    ensures { λ p. ⌜ p .0 ≡ places sh ⌝ }
+{
+    Place(homes(sh) + 2)
 }
 
 fn bit_of(b: bool) -> u32

@@ -118,7 +118,9 @@ returns c =
     (gaps-end bs (head .loop .i) end (head .loop .even) (head .loop .virgins) (head .loop .changes) (head .loop .keys)
     (c .loop-test .left))
     ∙ head .loop .inv .3
-    ∙ ap (gapped _ 0 0 0) (whole-table bs end (places (start .args .sh)) (start .pre .1) (head .before .end-of .ensures))
+    ∙ ap
+    (gapped _ 0 0 0)
+    (whole-table bs end (places (start .args .sh)) (start .pre .1) (head .before .end-of .ensures))
     ∙ gaps-begin (wordsOf bs)
 
 pub check-gaps-spec : {M : Type 1} → statement M
