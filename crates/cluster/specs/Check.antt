@@ -48,7 +48,7 @@ over-below d a b = go (ltb a (2 ^ d)) (ltb b (2 ^ d)) refl refl
     go false t p q =
         le-ltb (bitOr a b) (2 ^ d) (omega (arith, ltb-false a (2 ^ d) p, or-above b a, or-comm a b))
 
-over-low :
+pub over-low :
     (sh : Shape) (a b : ℕ) →
     ltb (wordOf (bitOr a b) .remainder) (remainders sh)
     ≡ (ltb (wordOf a .remainder) (remainders sh) && ltb (wordOf b .remainder) (remainders sh))
@@ -67,7 +67,7 @@ locked-high n small = go (ltb n 32768) refl
 pub over-small : (a b : ℕ) → a < 65536 → b < 65536 → bitOr a b < 65536
 over-small a b p q = or-lt 16 a b p q
 
-over-lock :
+pub over-lock :
     (a b : ℕ) → a < 65536 → b < 65536 → wordOf (bitOr a b) .lock ≡ (wordOf a .lock || wordOf b .lock)
 over-lock a b p q =
     locked-high (bitOr a b) (over-small a b p q)
@@ -101,7 +101,7 @@ rises-void g w none = rw none (go (w .change))
     go false = le-ltb (w .remainder) 0 (omega arith)
 
 -- where the gap is void, that says that the run rises and ends in change
-rises-ends : (g : Word) (ws : List Word) → g .remainder ≡ 0 → risesTo g ws ≡ (endsInChange ws && rising ws)
+pub rises-ends : (g : Word) (ws : List Word) → g .remainder ≡ 0 → risesTo g ws ≡ (endsInChange ws && rising ws)
 unfolding risesTo endsInChange rising rises
 rises-ends g [] none = refl
 rises-ends g (w ∷ []) none = ap (λ (b : Bool). b && true) (rises-void g w none)
@@ -216,7 +216,7 @@ module _ (sh : Shape) (bs : List ℕ) (i r : ℕ) where
   check-ended up over h = rw (run-end bs i r h) (check-end sh (at (wordsOf bs) r) up over)
 
 -- ---- the run and its two ends
-void-remainder : (w : Word) → isVoid w ≡ true → w .remainder ≡ 0
+pub void-remainder : (w : Word) → isVoid w ≡ true → w .remainder ≡ 0
 unfolding isVoid
 void-remainder w e = eqb-true (w .remainder) 0 (and-left (eqb (w .remainder) 0) _ e)
 

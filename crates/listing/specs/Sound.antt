@@ -1,28 +1,29 @@
 -- A whole table is sound if its guards are void and, from gap to gap, each cluster is sound and the gap after it void:
--- `sound-guards`, and the way from the left guard to the right one. Nothing is known of the words beforehand.
+-- `sound-guards`, `cluster-step`. So the guards and the two passes of Check tell it: `sound-checked`. Nothing is known
+-- of the words beforehand.
 -- Assumes nothing.
-use Prim.Native.Nat.{ℕ, suc, _+_, _*_, _≤_, _<_}
+use Prim.Native.Nat.{ℕ, zero, suc, _+_, _≤_, _<_}
 use mathlib.Core.Path.{_≡_, refl, sym, ap, _∙_}
 use mathlib.Core.Bool.{Bool, true, false, not, _&&_}
 use mathlib.Core.List.{List, [], _∷_, _++_}
-use native.Mathlib.Numerals.{add-one}
 use native.Mathlib.Omega.{arith}
 use lib.ListN.{length, take, drop, drop-of-length-le}
-use lib.Seq.{split-at, drop-append-le, length-take-le}
+use lib.Seq.{split-at, drop-cons, drop-append-le, length-take-le}
+use lib.Dec.{ltb}
+use borrow.Author.Tests.{ltb-true, ltb-false}
 use Rattle.rules.specs.declared.Shape.{Shape}
-use Rattle.rules.specs.Lists.{all}
+use Rattle.rules.specs.Lists.{count, all}
 use Rattle.rules.specs.Word.{Word, zeroWord, isVoid}
-use Rattle.rules.specs.Bytes.{wordsOf}
 use Rattle.rules.specs.Shape.{remainders, places, rightGuard}
 use Rattle.rules.specs.Table.{at, occupied, rightGap, between, soundRun, soundAt, soundFrom, guardsVoid, sound}
-use Rattle.words.specs.Layout.{words-length}
-use Rattle.theory.specs.Dealt.{isOccupied, and-left, and-right, and-both}
+use Rattle.theory.specs.Dealt.{isVirgin, isOccupied, isLow, and-left, and-right, and-both}
 use Rattle.theory.specs.Gaps.{Gap, Guarded, rightGap-is, gap-first, gap-above}
 use Rattle.theory.specs.Gaps as gaps
 use Rattle.theory.specs.Places.{void-free, occupied-at}
 use Rattle.theory.specs.Cut.{Cut, cut, between-occupied, void-guarded}
 use Rattle.theory.specs.SoundTable.{sound-past, look, sound-seen, sound-rest, origin-seen}
-use Rattle.theory.specs.SoundTable.{sound-is-table, table-guards}
+use Rattle.theory.specs.SoundTable.{sound-is-table, table-guards, nothing-sound}
+use Rattle.listing.specs.Check.{tidy, evenGaps, fine, fine-cluster}
 
 -- two tests that pass together have one value
 same-truth : (a b : Bool) → (a ≡ true → b ≡ true) → (b ≡ true → a ≡ true) → a ≡ b
@@ -97,26 +98,26 @@ module _ (sh : Shape) (ws : List Word) (l r : ℕ)
     abbrev w : List Word
     w = drop (suc r) ws
 
+    pieces : Cut ws l r
+    pieces = cut ws l r (gap .side) inside
+
+    taken : all isOccupied run ≡ true
+    taken = between-occupied ws l r (omega arith) (gap-above gaps.right gap)
+
+    empty : h .occupied ≡ false
+    empty = sym (occupied-at ws r) ∙ gap .free
+
+    after : v ≡ run ++ (h ∷ w)
+    after =
+        ap (drop (suc l)) (split-at ws r zeroWord inside)
+        ∙ drop-append-le (suc l) (take r ws) (h ∷ w)
+        (omega (arith, length-take-le r ws (omega arith), gap .side))
+
     cluster-step : soundAfter sh ws l ≡ ((soundRun sh run && isVoid h) && soundAfter sh ws r)
     cluster-step = same-truth _ _ to back
       where
-        pieces : Cut ws l r
-        pieces = cut ws l r (gap .side) inside
-
-        taken : all isOccupied run ≡ true
-        taken = between-occupied ws l r (omega arith) (gap-above gaps.right gap)
-
-        empty : h .occupied ≡ false
-        empty = sym (occupied-at ws r) ∙ gap .free
-
         parts : ws ≡ u ++ (g ∷ v)
         parts = split-at ws l zeroWord (omega (arith, gap .side))
-
-        after : v ≡ run ++ (h ∷ w)
-        after =
-            ap (drop (suc l)) (split-at ws r zeroWord inside)
-            ∙ drop-append-le (suc l) (take r ws) (h ∷ w)
-            (omega (arith, length-take-le r ws (omega arith), gap .side))
 
         place : suc l ≡ suc (length u)
         place = ap suc (sym (pieces .before))
@@ -145,59 +146,76 @@ module _ (sh : Shape) (ws : List Word) (l r : ℕ)
             (and-right (soundRun sh run) _ here)
             (sym rest ∙ and-right (soundRun sh run && isVoid h) _ t)
 
--- ---- the way from gap to gap, in the lent bytes
--- place l is a gap, and what lies after it is sound if what lies after the left guard is
-pub record Reached (sh : Shape) (bs : List ℕ) (l : ℕ) : Type 0 where
-  pub inside : l ≤ rightGuard sh
-  pub free : at (wordsOf bs) l .occupied ≡ false
-  pub rest : soundAfter sh (wordsOf bs) l ≡ soundAfter sh (wordsOf bs) 0
+    -- and both passes go on so too
+    cluster-fine :
+        (k : ℕ) →
+        fine sh k k v
+        ≡ ((soundRun sh run && isVoid h) && fine sh (k + count isVirgin run) (k + count isVirgin run) w)
+    cluster-fine k = ap (fine sh k k) after ∙ fine-cluster sh run h w k taken empty
 
-module _ (sh : Shape) (bs : List ℕ) (size : length bs ≡ 2 * places sh) (void : guardsVoid sh (wordsOf bs) ≡ true) where
-  guarded : Guarded sh (occupied (wordsOf bs))
-  guarded = void-guarded sh (wordsOf bs) (words-length bs (places sh) size) void
+-- ---- from gap to gap
+module _ (sh : Shape) (ws : List Word) (size : length ws ≡ places sh) (void : guardsVoid sh ws ≡ true) where
+  guarded : Guarded sh (occupied ws)
+  guarded = void-guarded sh ws size void
 
-  origin-free : at (wordsOf bs) 0 .occupied ≡ false
-  origin-free = sym (occupied-at (wordsOf bs) 0) ∙ guarded .left
+  origin-free : at ws 0 .occupied ≡ false
+  origin-free = sym (occupied-at ws 0) ∙ guarded .left
 
-  pub way-begins : Reached sh bs 0
-  way-begins = record { inside = omega arith; free = origin-free; rest = refl }
+  -- both passes over the words after a gap tell whether they are sound
+  fine-ended : (l k : ℕ) → rightGuard sh ≤ l → fine sh k k (drop (suc l) ws) ≡ soundAfter sh ws l
+  unfolding places rightGuard soundFrom fine tidy all evenGaps
+  fine-ended l k end =
+      let none : drop (suc l) ws ≡ [] = drop-of-length-le ws {i = suc l} (omega arith) in
+      ap (fine sh k k) none ∙ sym (ap (soundFrom sh ws (suc l)) none)
 
-  pub way-ends : (l : ℕ) → Reached sh bs l → rightGuard sh ≤ l → true ≡ soundAfter sh (wordsOf bs) 0
-  unfolding soundFrom places rightGuard
-  way-ends l at-l end =
-      ap
-      (soundFrom sh (wordsOf bs) (suc l))
-      (sym (drop-of-length-le (wordsOf bs) {i = suc l} (omega (arith, words-length bs (places sh) size))))
-      ∙ at-l .rest
-
-  module _ (l r : ℕ) (at-l : Reached sh bs l) (before : l < rightGuard sh)
-      (next : r ≡ rightGap (occupied (wordsOf bs)) (l + 1))
+  fine-after :
+      (f l k : ℕ) → rightGuard sh ≤ l + f → at ws l .occupied ≡ false →
+      fine sh k k (drop (suc l) ws) ≡ soundAfter sh ws l
+  unfolding places rightGuard
+  fine-after zero l k near free = fine-ended l k (omega arith)
+  fine-after (suc f) l k near free =
+      go (ltb l (rightGuard sh)) refl (λ r j ahead empty. fine-after f r j (omega arith) empty)
     where
-      gap-next : Gap gaps.right (occupied (wordsOf bs)) (suc l) r
-      gap-next = rw (next, add-one l) (rightGap-is (occupied (wordsOf bs)) (suc l))
+      r : ℕ
+      r = rightGap (occupied ws) (suc l)
 
-      pub next-inside : (l < r) × (r ≤ rightGuard sh)
-      next-inside = (gap-next .side, gap-first gaps.right (rightGuard sh) gap-next before (guarded .right))
+      next : Gap gaps.right (occupied ws) (suc l) r
+      next = rightGap-is (occupied ws) (suc l)
 
-      here : soundAfter sh (wordsOf bs) l
-          ≡ ((soundRun sh (between (wordsOf bs) l r) && isVoid (at (wordsOf bs) r)) && soundAfter sh (wordsOf bs) r)
-      unfolding places rightGuard
-      here =
-          cluster-step sh (wordsOf bs) l r origin-free (at-l .free) gap-next
-          (omega (arith, next-inside .1, words-length bs (places sh) size))
+      go :
+          (b : Bool) → ltb l (rightGuard sh) ≡ b →
+          ((q j : ℕ) → l < q → at ws q .occupied ≡ false → fine sh j j (drop (suc q) ws) ≡ soundAfter sh ws q) →
+          fine sh k k (drop (suc l) ws) ≡ soundAfter sh ws l
+      go false e rest = fine-ended l k (ltb-false l (rightGuard sh) e)
+      go true e rest =
+          let before : r ≤ rightGuard sh =
+          gap-first gaps.right (rightGuard sh) next (ltb-true l (rightGuard sh) e) (guarded .right) in
+          let here : r < length ws = omega arith in
+          cluster-fine sh ws l r origin-free free next here k
+          ∙ ap
+          (λ (b : Bool). (soundRun sh (between ws l r) && isVoid (at ws r)) && b)
+          (rest r (k + count isVirgin (between ws l r)) (next .side) (sym (occupied-at ws r) ∙ next .free))
+          ∙ sym (cluster-step sh ws l r origin-free free next here)
 
-      pub way-on :
-          (t : Bool) →
-          t ≡ (soundRun sh (between (wordsOf bs) l r) && isVoid (at (wordsOf bs) r)) → t ≡ true → Reached sh bs r
-      way-on t tested e =
-          record {
-            inside = next-inside .1;
-            free = sym (occupied-at (wordsOf bs) r) ∙ gap-next .free;
-            rest = rw (here, ← tested, e) at (at-l .rest);
-          }
+  -- the left guard is the gap after a cluster of nothing
+  fine-whole : fine sh 0 0 ws ≡ soundAfter sh ws 0
+  unfolding places guardsVoid count all
+  fine-whole =
+      ap (fine sh 0 0) (drop-cons ws 0 zeroWord (omega arith))
+      ∙ fine-cluster sh [] (at ws 0) (drop 1 ws) 0 refl origin-free
+      ∙ rw
+      (nothing-sound sh, and-left (isVoid (at ws 0)) _ void)
+      (fine-after (rightGuard sh) 0 0 (omega arith) origin-free)
 
-      pub way-stops :
-          (t : Bool) →
-          t ≡ (soundRun sh (between (wordsOf bs) l r) && isVoid (at (wordsOf bs) r)) →
-          t ≡ false → false ≡ soundAfter sh (wordsOf bs) 0
-      way-stops t tested e = rw (here, ← tested, e) at (at-l .rest)
+-- so the guards and the two passes tell whether a table is sound
+pub sound-checked :
+    (sh : Shape) (ws : List Word) → remainders sh ≤ 4096 → length ws ≡ places sh →
+    (guardsVoid sh ws && (tidy ws && all (isLow (remainders sh)) ws) && evenGaps 0 0 ws) ≡ sound sh ws
+unfolding fine
+sound-checked sh ws s size = go (guardsVoid sh ws) refl
+  where
+    go :
+        (b : Bool) → guardsVoid sh ws ≡ b →
+        (guardsVoid sh ws && (tidy ws && all (isLow (remainders sh)) ws) && evenGaps 0 0 ws) ≡ sound sh ws
+    go true e = rw (sound-guards sh ws s size, e) (fine-whole sh ws size e)
+    go false e = rw (sound-guards sh ws s size, e)

@@ -1,104 +1,90 @@
-// The keys of a sound table, counted and written from left to right. All groups of the table take their homes from one
-// queue: one cursor goes through the occupied words and one through the virgin bits, and both only to the right.
-use cluster::read::next_virgin;
+// The keys of a sound table, written from left to right. All groups of the table take their homes from one queue: one
+// cursor goes through the occupied words and one through the virgin bits, and both only to the right. While keys are
+// left each finds a next one, so neither asks for the table's end.
 use rules::Shape;
 use words::bytes::word_at;
 use words::key::join;
 use words::place::Place;
-use words::shape::homes;
 use words::word::change;
 use words::word::occupied;
 use words::word::remainder;
+use words::word::virgin;
+use words::word::with_change;
 ghost use mathlib.Core.Path.{_≡_};
-ghost use mathlib.Core.Bool.{true};
-ghost use Prim.Native.Nat.{_+_, _*_, _≤_, _<_};
+ghost use Prim.Native.Nat.{_+_, _≤_, _<_};
 ghost use lib.ListN.{length};
-ghost use lib.Seq.{slice};
-ghost use Rattle.rules.specs.Lists.{bitOf, count};
+ghost use Rattle.rules.specs.Lists.{bitOf};
 ghost use Rattle.rules.specs.Word.{wordOf};
 ghost use Rattle.rules.specs.Bytes.{wordsOf};
-ghost use Rattle.rules.specs.Shape.{places};
-ghost use Rattle.rules.specs.Table.{list, sound};
+ghost use Rattle.rules.specs.Table.{at, list};
 ghost use Rattle.rules.specs.Listing.{atFront};
-ghost use Rattle.words.specs.Range.{InRange};
-ghost use Rattle.theory.specs.Dealt.{isOccupied};
-ghost use Rattle.listing.specs.Scan.{occupiedFrom};
+ghost use Rattle.listing.specs.Scan.{keyFrom, homeFrom, Homed};
 ghost use Rattle.listing.specs.Write.{Listable};
 
-// The place after the right guard: as many places as there are.
-pub fn end_of(sh: Shape) -> Place
-    requires { ⌜ InRange sh ⌝ }
-    ensures { λ p. ⌜ p .0 ≡ places sh ⌝ }
-{
-    Place(homes(sh) + 2)
+// An occupied place and its word.
+struct Key {
+    place: Place,
+    word: u16,
 }
 
-// The occupied ones among the first places, up to r and without it.
-fn count_occupied(table: &[u8], r: Place) -> u32
-    requires { ⌜ 2 * r .0 ≤ length (now table) ⌝ }
-    ensures { λ n. ⌜ n ≡ count isOccupied (slice 0 (r .0) (wordsOf (now (table .entry)))) ⌝ }
+// The first occupied place after p, where there is one.
+fn next_key(table: &[u8], p: Place) -> Key
+    requires { ⌜ length (now table) ≤ 4294967296 ⌝ }
+    requires { ⌜ keyFrom (wordsOf (now table)) (p .0 + 1) < length (wordsOf (now table)) ⌝ }
+    ensures { λ k. ⌜ k .place .0 ≡ keyFrom (wordsOf (now (table .entry))) (p .0 + 1) ⌝
+        ∗ ⌜ wordOf (k .word) ≡ at (wordsOf (now (table .entry))) (k .place .0) ⌝ }
 {
-    let end = r.0;
-    let mut n: u32 = 0;
-    let mut i: u32 = 0;
-    while i < end {
-        if occupied(word_at(table, Place(i))) {
-            n += 1;
-        }
-        i += 1;
-    }
-    n
-}
-
-// A sound table has one key for each occupied word.
-pub fn count_keys(sh: Shape, table: &[u8]) -> usize
-    requires { ⌜ InRange sh ⌝ ∗ ⌜ length (now table) ≡ 2 * places sh ⌝ ∗ ⌜ sound sh (wordsOf (now table)) ≡ true ⌝ }
-    ensures { λ n. ⌜ n ≡ length (list sh (wordsOf (now (table .entry)))) ⌝ }
-{
-    count_occupied(table, end_of(sh)) as usize
-}
-
-// The first occupied place from p on, up to r: the end if there is none.
-fn next_occupied(table: &[u8], p: Place, r: Place) -> Place
-    requires { ⌜ 2 * r .0 ≤ length (now table) ⌝ }
-    ensures { λ q. ⌜ q .0 ≡ occupiedFrom (wordsOf (now (table .entry))) (r .0) (p .0) ⌝ }
-{
-    let end = r.0;
     let mut i = p.0;
-    while i < end {
-        if occupied(word_at(table, Place(i))) {
-            return Place(i);
-        } else {
-            i += 1;
+    loop {
+        i += 1;
+        let w = word_at(table, Place(i));
+        if occupied(w) {
+            return Key {
+                place: Place(i),
+                word: w,
+            };
         }
     }
-    Place(i)
 }
 
-// Where the home of the next key is looked for: after a group's last word beyond the group's home.
-fn home_after(h: Place, w: u16) -> Place
-    requires { ⌜ h .0 < 4294967295 ⌝ }
-    ensures { λ v. ⌜ v .0 ≡ h .0 + bitOf (wordOf w .change) ⌝ }
+// The first home after h, where there is one.
+fn next_home(table: &[u8], h: Place) -> Place
+    requires { ⌜ length (now table) ≤ 4294967296 ⌝ }
+    requires { ⌜ homeFrom (wordsOf (now table)) (h .0 + 1) < length (wordsOf (now table)) ⌝ }
+    ensures { λ g. ⌜ g .0 ≡ homeFrom (wordsOf (now (table .entry))) (h .0 + 1) ⌝ }
 {
-    if change(w) { Place(h.0 + 1) } else { h }
+    let mut i = h.0;
+    loop {
+        i += 1;
+        if virgin(word_at(table, Place(i))) {
+            return Place(i);
+        }
+    }
 }
 
-// The n keys of the table, to the front of the slots.
+// The home of the key after the word w, whose home is h: the next one where w ends its group, else h itself.
+fn home_after(table: &[u8], h: Place, w: u16) -> Place
+    requires { ⌜ length (now table) ≤ 4294967296 ⌝ ∗ ⌜ Homed (now table) (h .0) w ⌝ }
+    ensures { λ g. ⌜ g .0 ≡ homeFrom (wordsOf (now (table .entry))) (h .0 + bitOf (wordOf w .change)) ⌝ }
+{
+    if change(w) { next_home(table, h) } else { h }
+}
+
+// The n keys of the table, to the front of the slots. The left guard is taken for a word that ends a group.
 pub fn write_keys(sh: Shape, table: &[u8], n: usize, slots: &mut [u32])
     requires { ⌜ Listable sh (now table) n (now slots) ⌝ }
     ensures { λ _. ⌜ now (slots .exit) ≡ atFront (list sh (wordsOf (now (table .entry)))) (now (slots .entry)) ⌝ }
 {
-    let end = end_of(sh);
-    let mut v = Place(0);
-    let mut i = Place(0);
+    let mut h = Place(0);
+    let mut p = Place(0);
+    let mut w = with_change(0, true);
     let mut k: usize = 0;
     while k < n {
-        let p = next_occupied(table, i, end);
-        let w = word_at(table, p);
-        let h = next_virgin(table, v, end);
+        h = home_after(table, h, w);
+        let key = next_key(table, p);
+        p = key.place;
+        w = key.word;
         slots[k] = join(sh, h, remainder(w));
-        v = home_after(h, w);
-        i = Place(p.0 + 1);
         k += 1;
     }
 }

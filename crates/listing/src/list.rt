@@ -1,13 +1,9 @@
 // List (01, Answers and their numbers): the whole table is checked before a slot is written.
-use crate::keys::count_keys;
-use crate::keys::end_of;
+use crate::check::check_table;
 use crate::keys::write_keys;
-use crate::sound::sound_table;
-use cluster::run::any_locked;
 use rules::ListAnswer;
 use rules::Refusal;
 use rules::Shape;
-use words::place::Place;
 use words::shape::good_table;
 use words::shape::shape_of;
 ghost use mathlib.Core.Path.{_≡_};
@@ -15,28 +11,21 @@ ghost use Prim.Native.Nat.{_*_};
 ghost use lib.ListN.{length};
 ghost use Rattle.rules.specs.Bytes.{wordsOf};
 ghost use Rattle.rules.specs.Shape.{places};
-ghost use Rattle.rules.specs.Table.{locked};
 ghost use Rattle.rules.specs.Answer.{listSays, leaves};
 ghost use Rattle.rules.specs.Listing.{listIn, listing};
 ghost use Rattle.words.specs.Range.{InRange};
-
-fn lock_anywhere(sh: Shape, table: &[u8]) -> bool
-    requires { ⌜ InRange sh ⌝ ∗ ⌜ length (now table) ≡ 2 * places sh ⌝ }
-    ensures { λ t. ⌜ t ≡ locked (wordsOf (now (table .entry))) ⌝ }
-{
-    any_locked(table, Place(0), end_of(sh))
-}
 
 fn list_in(sh: Shape, table: &[u8], slots: &mut [u32]) -> ListAnswer
     requires { ⌜ InRange sh ⌝ ∗ ⌜ length (now table) ≡ 2 * places sh ⌝ }
     ensures { λ x. ⌜ leaves (listSays x) (now (slots .exit))
         ≡ listIn sh (wordsOf (now (table .entry))) (now (slots .entry)) ⌝ }
 {
-    if sound_table(sh, table) {
-        if lock_anywhere(sh, table) {
+    let check = check_table(sh, table);
+    if check.sound {
+        if check.locked {
             ListAnswer::Refused(Refusal::Locked)
         } else {
-            let n = count_keys(sh, table);
+            let n = check.keys as usize;
             if n <= slots.len() {
                 write_keys(sh, table, n, slots);
                 ListAnswer::Listed(n)

@@ -1,7 +1,7 @@
 -- `home_after` meets its contract.
 -- Assumes nothing.
+use mathlib.Core.Path.{sym, _∙_}
 use borrow.Author.Needs.{needs}
-use mathlib.Core.Path.{sym}
 use native.Mathlib.Nat.{add-zero}
 use Rattle.listing.proofs.keys.home_after.Statement.{statement}
 use Rattle.listing.proofs.keys.home_after.Tie as tie
@@ -9,14 +9,19 @@ use Rattle.listing.proofs.keys.home_after.Tie as tie
 change-requires : tie.Need-change-requires
 change-requires c κs = search needs
 
-add-t5 : tie.Need-add-t5
-add-t5 c = search needs
+next-home-requires : tie.Need-next-home-requires
+next-home-requires c κs =
+    let start = c .before .before .before in
+    (start .pre .0, rw (sym (c .before .change .ensures) ∙ c .if1 .taken) at (start .pre .1 .ahead))
 
 returns : tie.Need-returns
-returns c = rw (← c .before .before .change .ensures, c .before .if1 .taken)
+returns c = rw (sym (c .before .before .change .ensures) ∙ c .before .if1 .taken) (c .next-home .ensures)
 
 returns-2 : tie.Need-returns-2
-returns-2 c = rw (← c .before .change .ensures, c .if1 .left) (sym (add-zero _))
+returns-2 c =
+    let start = c .before .before .before in
+    let goes = sym (c .before .change .ensures) ∙ c .if1 .left in
+    rw (goes, add-zero (start .args .h .0)) (sym (start .pre .1 .here goes))
 
 pub home-after-spec : {M : Type 1} → statement M
-home-after-spec = tie.close (tie.spec change-requires add-t5 returns returns-2)
+home-after-spec = tie.close (tie.spec change-requires next-home-requires returns returns-2)

@@ -1,33 +1,63 @@
 -- `list_in` meets its contract: 6, then 7, then 9, and only then the keys.
 -- Assumes nothing.
-use mathlib.Core.Path.{sym, _∙_}
+use mathlib.Core.Path.{_≡_, sym, ap, _∙_}
+use mathlib.Core.Bool.{true}
 use borrow.Author.Needs.{needs}
 use borrow.Author.Tests.{le-leb, lt-leb}
+use denote.Ref.{now}
+use lib.ListN.{length}
+use Rattle.rules.specs.Bytes.{wordsOf}
+use Rattle.rules.specs.Table.{sound, locked, list}
 use Rattle.rules.specs.Listing.{listIn}
+use Rattle.words.specs.Range.{remainders-high}
+use Rattle.words.specs.Layout.{words-length}
+use Rattle.listing.specs.declared.check.Check.{Check}
+use Rattle.listing.specs.Check.{checkOf}
+use Rattle.listing.specs.Queue.{keys-counted}
 use Rattle.listing.proofs.list.list_in.Statement.{statement}
 use Rattle.listing.proofs.list.list_in.Tie as tie
 
-sound-table-requires : tie.Need-sound-table-requires
-sound-table-requires c κs = search needs
+check-table-requires : tie.Need-check-table-requires
+check-table-requires c κs = search needs
 
-lock-anywhere-requires : tie.Need-lock-anywhere-requires
-lock-anywhere-requires c κs = search needs
+cast-n : tie.Need-cast-n
+cast-n c = search needs
 
-count-keys-requires : tie.Need-count-keys-requires
-count-keys-requires c κs =
-    let checked = c .before .before in
-    let start = checked .before .before .before .before in
-    (start .pre .0, (start .pre .1, sym (checked .before .sound-table .ensures) ∙ checked .if1 .taken))
+-- what the check tells
+module _ (c : tie.After-check-table) where
+  abbrev start : tie.Start
+  start = c .before .before .before
+
+  sound-told :
+      c .check-table .result .sound ≡ sound (start .args .sh) (wordsOf (now (start .args .table)))
+  unfolding checkOf
+  sound-told = ap (λ (k : Check). k .sound) (c .check-table .ensures)
+
+  locked-told : c .check-table .result .locked ≡ locked (wordsOf (now (start .args .table)))
+  unfolding checkOf
+  locked-told = ap (λ (k : Check). k .locked) (c .check-table .ensures)
+
+  -- a sound table has one key for each occupied word
+  keys-told :
+      c .check-table .result .sound ≡ true →
+      c .check-table .result .keys ≡ length (list (start .args .sh) (wordsOf (now (start .args .table))))
+  unfolding checkOf
+  keys-told snd =
+      ap (λ (k : Check). k .keys) (c .check-table .ensures)
+      ∙ keys-counted (start .args .sh) (wordsOf (now (start .args .table)))
+      (remainders-high (start .args .sh) (start .pre .0))
+      (words-length (now (start .args .table)) _ (start .pre .1))
+      (sym sound-told ∙ snd)
 
 write-keys-requires : tie.Need-write-keys-requires
 write-keys-requires c κs =
-    let checked = c .before .before .before .before .before in
-    let start = checked .before .before .before .before in
+    let good = c .before .before .before .before in
+    let checked = good .before in
     record {
-      range = start .pre .0;
-      size = start .pre .1;
-      snd = sym (checked .before .sound-table .ensures) ∙ checked .if1 .taken;
-      keys = c .before .before .count-keys .ensures;
+      range = start checked .pre .0;
+      size = start checked .pre .1;
+      snd = sym (sound-told checked) ∙ good .if1 .taken;
+      keys = keys-told checked (good .if1 .taken);
       room = c .before .if3 .taken;
     }
 
@@ -35,12 +65,7 @@ returns : tie.Need-returns
 unfolding listIn
 returns c =
     let checked = c .before .before in
-    rw (
-      ← checked .before .sound-table .ensures,
-      checked .if1 .taken,
-      ← c .before .lock-anywhere .ensures,
-      c .if2 .taken,
-    )
+    rw (← sound-told checked, c .before .if1 .taken, ← locked-told checked, c .if2 .taken)
 
 same-length : tie.Need-same-length
 same-length c = search needs
@@ -51,13 +76,14 @@ returns-2 c =
     let wrote = c .before .before in
     let fits = wrote .before .before in
     let free = fits .before .before in
-    let checked = free .before .before in
+    let good = free .before in
+    let checked = good .before in
     rw (
-      ← checked .before .sound-table .ensures,
-      checked .if1 .taken,
-      ← free .before .lock-anywhere .ensures,
+      ← sound-told checked,
+      good .if1 .taken,
+      ← locked-told checked,
       free .if2 .left,
-      ← fits .before .count-keys .ensures,
+      ← keys-told checked (good .if1 .taken),
       le-leb _ _ (fits .if3 .taken),
       wrote .write-keys .ensures,
     )
@@ -66,27 +92,27 @@ returns-3 : tie.Need-returns-3
 unfolding listIn
 returns-3 c =
     let free = c .before .before in
-    let checked = free .before .before in
+    let good = free .before in
+    let checked = good .before in
     rw (
-      ← checked .before .sound-table .ensures,
-      checked .if1 .taken,
-      ← free .before .lock-anywhere .ensures,
+      ← sound-told checked,
+      good .if1 .taken,
+      ← locked-told checked,
       free .if2 .left,
-      ← c .before .count-keys .ensures,
+      ← keys-told checked (good .if1 .taken),
       lt-leb _ _ (c .if3 .left),
     )
 
 returns-4 : tie.Need-returns-4
 unfolding listIn
-returns-4 c = rw (← c .before .sound-table .ensures, c .if1 .left)
+returns-4 c = rw (← sound-told (c .before), c .if1 .left)
 
 pub list-in-spec : {M : Type 1} → statement M
 list-in-spec =
     tie.close
     (tie.spec
-    sound-table-requires
-    lock-anywhere-requires
-    count-keys-requires
+    check-table-requires
+    cast-n
     write-keys-requires
     returns
     same-length

@@ -4,8 +4,8 @@ use borrow.Author.Needs.{needs}
 use native.Mathlib.Omega.{arith}
 use Rattle.rules.specs.Shape.{places}
 use Rattle.words.specs.Range.{homes-high}
-use Rattle.listing.proofs.keys.end_of.Statement.{statement}
-use Rattle.listing.proofs.keys.end_of.Tie as tie
+use Rattle.listing.proofs.check.end_of.Statement.{statement}
+use Rattle.listing.proofs.check.end_of.Tie as tie
 
 homes-requires : tie.Need-homes-requires
 homes-requires c κs = search needs
