@@ -61,7 +61,7 @@ module _ (bs : List ℕ) (a i : ℕ) (from : a ≤ i) (within : 2 * (i + 1) ≤ 
     back-on few left =
         let us = slice a i (wordsOf bs) in
         let same : count isChange (slice a (i + 1) (wordsOf bs)) - k ≡ count isChange us - (k - x) =
-            omega (arith, one-counted) in (
+        omega (arith, one-counted) in (
           omega (arith, one-counted),
           sym
               (ap₂ passed one-more same
@@ -81,7 +81,7 @@ module _ (bs : List ℕ) (a i : ℕ) (from : a ≤ i) (within : 2 * (i + 1) ≤ 
             let us = slice a i (wordsOf bs) in
             let one : x ≡ 1 = bit ∙ ap bitOf c in
             let all : count isChange (slice a (i + 1) (wordsOf bs)) - k ≡ count isChange us + 1 =
-                omega (arith, one, one-counted) in
+            omega (arith, one, one-counted) in
             let ended : passed (at (wordsOf bs) i ∷ []) 1 ≡ 1 = refl in
             omega (
               arith,
@@ -159,7 +159,7 @@ module _ {bs : List ℕ} {l : End} {home : ℕ} (b : Beside bs l home) where
       ≡ first + passed (wordsFrom bs first) (l .virgins)
   start-left more-groups =
       let all : count isChange (slice first home (wordsOf bs)) - (l .changes - l .virgins) ≡ l .virgins =
-          omega (arith, b .changes) in
+      omega (arith, b .changes) in
       omega (
         arith,
         ap (passed (slice first home (wordsOf bs))) all,
@@ -242,7 +242,7 @@ module _ (e : Entry) (bs : List ℕ) (l r : ℕ) (after-l : l < e .home) (before
     split-homes : virginPlaces (l + 1) run ≡ virginPlaces (l + 1) left ++ homesFrom (wordsOf bs) r (e .home)
     split-homes =
         let size : l + 1 + length left ≡ e .home =
-            omega (arith, length-slice (l + 1) (e .home) (wordsOf bs) (omega (arith, words-count bs))) in
+        omega (arith, length-slice (l + 1) (e .home) (wordsOf bs) (omega (arith, words-count bs))) in
         ap (virginPlaces (l + 1)) cut
         ∙ virgins-append (l + 1) left (slice (e .home) r (wordsOf bs))
         ∙ ap (λ (n : ℕ). virginPlaces (l + 1) left ++ virginPlaces n (slice (e .home) r (wordsOf bs))) size

@@ -84,19 +84,19 @@ loop-again c =
     let here : head .loop .i - 1 + 1 ≡ head .loop .i = omega arith in
     let bit = sym (ap bitOf (sym (tested .change .ensures) ∙ c .before .if1 .taken)) in
     let on =
-        back-on
-        bs
-        (start .args .l .0 + 1)
-        (head .loop .i)
-        (omega arith)
-        (omega arith)
-        (read .word-at .result)
-        1
-        (head .loop .left)
-        (read .word-at .ensures)
-        bit
-        (omega arith)
-        (head .loop .inv .2) in
+    back-on
+    bs
+    (start .args .l .0 + 1)
+    (head .loop .i)
+    (omega arith)
+    (omega arith)
+    (read .word-at .result)
+    1
+    (head .loop .left)
+    (read .word-at .ensures)
+    bit
+    (omega arith)
+    (head .loop .inv .2) in
     (omega arith, omega arith, rw here (on .0), rw here (on .1) ∙ head .loop .inv .3)
 
 sub-i-3 : tie.Need-sub-i-3 Inv-loop μ-loop
@@ -116,19 +116,19 @@ loop-again-2 c =
     let all : head .loop .left - 0 ≡ head .loop .left = omega arith in
     let bit = sym (ap bitOf (sym (tested .change .ensures) ∙ c .if1 .left)) in
     let on =
-        back-on
-        bs
-        (start .args .l .0 + 1)
-        (head .loop .i)
-        (omega arith)
-        (omega arith)
-        (read .word-at .result)
-        0
-        (head .loop .left)
-        (read .word-at .ensures)
-        bit
-        (omega arith)
-        (head .loop .inv .2) in
+    back-on
+    bs
+    (start .args .l .0 + 1)
+    (head .loop .i)
+    (omega arith)
+    (omega arith)
+    (read .word-at .result)
+    0
+    (head .loop .left)
+    (read .word-at .ensures)
+    bit
+    (omega arith)
+    (head .loop .inv .2) in
     (omega arith, omega arith, rw here (rw all at (on .0)), rw here (rw all at (on .1)) ∙ head .loop .inv .3)
 
 add-t14 : tie.Need-add-t14 Inv-loop μ-loop

@@ -65,8 +65,8 @@ word-at-requires-2 c κs =
     let head = tested .before .before in
     let bs = now (head .before .before .before .args .table) in
     let more =
-        ends-later bs (head .loop .i) (head .loop .inv .1) (head .loop .w) (head .loop .inv .2)
-        (sym (tested .before .change .ensures) ∙ not-true _ (tested .if1 .taken)) in
+    ends-later bs (head .loop .i) (head .loop .inv .1) (head .loop .w) (head .loop .inv .2)
+    (sym (tested .before .change .ensures) ∙ not-true _ (tested .if1 .taken)) in
     omega (arith, ends-there bs (head .loop .i + 1) more)
 
 loop-less : tie.Need-loop-less Inv-loop μ-loop
@@ -94,7 +94,7 @@ loop-again c =
       ends-later bs (head .loop .i) (head .loop .inv .1) (head .loop .w) (head .loop .inv .2) goes,
       c .word-at2 .ensures,
       λ (home : ℕ).
-      rw (looked .look .ensures home)
+          rw (looked .look .ensures home)
           (group-goes
           bs
           (head .loop .i)

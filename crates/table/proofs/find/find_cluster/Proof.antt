@@ -61,10 +61,10 @@ find-beside-requires c κs =
     let l = ended .before .left-end .result in
     let left = ended .before .left-end .ensures in
     let free =
-        told-open here l (ended .right-end .result) left (ended .right-end .ensures) (checked .check-run .result)
-        (checked .check-run .ensures)
-        (c .before .if1 .taken)
-        (c .if2 .left) in
+    told-open here l (ended .right-end .result) left (ended .right-end .ensures) (checked .check-run .result)
+    (checked .check-run .ensures)
+    (c .before .if1 .taken)
+    (c .if2 .left) in
     beside-cluster _ (entry _ 0) (here .range) (here .even) (crowded-inside here free) l left
 
 returns : tie.Need-returns
@@ -100,10 +100,10 @@ returns-2 c =
     let l = ended .before .left-end .result in
     let left = ended .before .left-end .ensures in
     let free =
-        told-open here l (ended .right-end .result) left (ended .right-end .ensures) (checked .check-run .result)
-        (checked .check-run .ensures)
-        (tested .before .if1 .taken)
-        (tested .if2 .left) in
+    told-open here l (ended .right-end .result) left (ended .right-end .ensures) (checked .check-run .result)
+    (checked .check-run .ensures)
+    (tested .before .if1 .taken)
+    (tested .if2 .left) in
     c .find-beside .ensures
     ∙ ap
     (λ (a : Read). says (bitOf (a .held)))

@@ -81,8 +81,8 @@ add-beside-requires c κs =
     let (i, (free, (full, left))) = start .pre .1 .1 in
     let size = words-length (now (start .args .table)) (places (start .args .sh)) (start .pre .1 .0) in
     let g =
-        ready _ _ (entry (start .args .home .0) (start .args .x)) (start .pre .0) i size free full left (reads read)
-        (c .before .if1 .left) in
+    ready _ _ (entry (start .args .home .0) (start .args .x)) (start .pre .0) i size free full left (reads read)
+    (c .before .if1 .left) in
     (start .pre .0, (start .pre .1 .0, g))
 
 same-length-2 : tie.Need-same-length-2

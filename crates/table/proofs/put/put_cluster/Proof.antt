@@ -88,11 +88,11 @@ put-beside-requires c κs =
     let here = crowded start in
     let left = lefted .left-end .ensures in
     let free =
-        told-open here (lefted .left-end .result) (ended .right-end .result) left (ended .right-end .ensures)
-        (checked .check-run .result)
-        (checked .check-run .ensures)
-        (tested .before .if1 .taken)
-        (tested .if2 .left) in
+    told-open here (lefted .left-end .result) (ended .right-end .result) left (ended .right-end .ensures)
+    (checked .check-run .result)
+    (checked .check-run .ensures)
+    (tested .before .if1 .taken)
+    (tested .if2 .left) in
     (start .pre .0, (start .pre .1 .0, (start .pre .1 .1 .0, (free, (here .full, left)))))
 
 same-length-2 : tie.Need-same-length-2
