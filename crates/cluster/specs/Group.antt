@@ -1,29 +1,26 @@
 -- A read by the groups: the groups of earlier homes are passed over by their change bits, `passed`; then the key's own
--- group is read, `groupRead`; later ones say nothing of the key. `read-grouped`: that is what a read gives.
+-- group is read, `groupRead`; later ones say nothing of the key. No step looks beyond the words that it needs.
 -- Assumes nothing.
 use Prim.Native.Nat.{ℕ, zero, suc, _+_, _-_, _*_, _/_, _≤_, _<_, min}
 use mathlib.Core.Path.{_≡_, refl, sym, _∙_, ap, ap₂}
-use mathlib.Core.Bool.{Bool, true, false, cond, _&&_}
+use mathlib.Core.Bool.{Bool, true, false, cond}
 use mathlib.Core.List.{List, [], _∷_, _++_}
-use native.Mathlib.Numerals.{add-one}
 use native.Mathlib.Nat.{add-zero}
 use native.Mathlib.Omega.{arith}
-use lib.ListN.{length, take, drop}
-use lib.Seq.{slice, length-slice, drop-drop}
+use lib.ListN.{length, drop}
+use lib.Seq.{slice}
 use lib.Dec.{ltb}
 use borrow.Author.Tests.{ltb-true, ltb-false}
 use Rattle.rules.specs.Lists.{bitOf, count}
 use Rattle.rules.specs.Word.{Word, wordOf}
 use Rattle.rules.specs.Bytes.{wordsOf}
 use Rattle.rules.specs.Entry.{Entry}
-use Rattle.rules.specs.Table.{at, between, virginPlaces, due, deal, entriesBetween}
-use Rattle.theory.specs.Dealt.{isChange, isVirgin, and-left, and-right, ends-counted}
-use Rattle.theory.specs.RunLaws.{virgin-count}
-use Rattle.cluster.specs.Scan.{words-count}
+use Rattle.rules.specs.Table.{at, virginPlaces, due, deal}
+use Rattle.theory.specs.Dealt.{isChange, ends-counted}
 use Rattle.cluster.specs.Run.{run-step, run-end}
-use Rattle.cluster.specs.Homes.{homesFrom, home-passed, home-met, home-end, Housed, Owed, housed-owed, owed-next}
-use Rattle.cluster.specs.Read.{readOf, entry, look, look-before, look-beyond, after, unseen}
-use Rattle.cluster.specs.Read.{after-step, after-end, read-whole}
+use Rattle.cluster.specs.Homes.{Owed, owed-next}
+use Rattle.cluster.specs.Read.{entry, look, look-before, look-beyond, after}
+use Rattle.cluster.specs.Read.{after-step, after-end}
 use Rattle.cluster.specs.declared.read.Read.{Read}
 use Rattle.cluster.specs.declared.read.Seen.{Seen}
 
@@ -71,10 +68,6 @@ virgins-below c a (w ∷ us) h = go (w .virgin) (virgins-below c (suc a) us (ome
         Below c (cond b (a ∷ virginPlaces (suc a) us) (virginPlaces (suc a) us))
     go true rest = let low : a < c = omega arith in below-next low rest
     go false rest = rest
-
-virgins-none : (c a : ℕ) → Below c (virginPlaces a [])
-unfolding virginPlaces
-virgins-none c a = below-none
 
 pub virgins-above : (c b : ℕ) (vs : List Word) → c < b → Above c (virginPlaces b vs)
 unfolding virginPlaces
@@ -222,19 +215,8 @@ read-group e hs (w ∷ ws) s high o =
     go true next rest = pass-later e now-seen ws hs high next
     go false next rest = rest next
 
--- ---- the loops: homes counted, groups passed over, the key's own group read
+-- ---- the loops: groups passed over, the key's own group read
 module _ (bs : List ℕ) (i r : ℕ) where
-  -- n homes are counted, and those from place i on are to come
-  pub homes-counted :
-      (n w x : ℕ) → i < r → 2 * r ≤ length bs → wordOf w ≡ at (wordsOf bs) i → x ≡ bitOf (wordOf w .virgin) →
-      n + x + count isVirgin (slice (i + 1) r (wordsOf bs)) ≡ n + count isVirgin (slice i r (wordsOf bs))
-  unfolding count
-  homes-counted n w x lt within word bit = rw (run-step bs i r lt within, ← word, ← bit) (omega arith)
-
-  pub homes-end : (n : ℕ) → r ≤ i → n + count isVirgin (slice i r (wordsOf bs)) ≡ n
-  unfolding count
-  homes-end n h = rw (run-end bs i r h) (add-zero n)
-
   -- where k groups are to be passed over, there is a word
   pub group-there : (k : ℕ) → 0 < k → k ≤ count isChange (slice i r (wordsOf bs)) → i < r
   unfolding count

@@ -13,7 +13,7 @@ use borrow.Author.Tests.{lt-ltb, le-ltb, eq-eqb, ne-eqb}
 use Rattle.rules.specs.Lists.{bitOf, count, all, any}
 use Rattle.rules.specs.Bytes.{wordsOf}
 use Rattle.rules.specs.Entry.{Entry, sameHome, sameEntry, precedes}
-use Rattle.rules.specs.Table.{at, deal, entriesBetween}
+use Rattle.rules.specs.Table.{deal, entriesBetween}
 use Rattle.rules.specs.Lay.{holds}
 use Rattle.rules.specs.Phase.{smaller, markOf}
 use Rattle.words.specs.Number.{bit-small}

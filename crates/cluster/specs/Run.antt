@@ -1,5 +1,5 @@
--- A run taken place by place: `run-step`, `run-end`, `run-last`; the steps of the scans for a lock and for an empty
--- place; and soundness in one pass, `passes`, which `passes-sound` says is the rule's.
+-- A run taken place by place: `run-step`, `run-end`, `run-last`; the steps of the scan for an empty place; and
+-- soundness in one pass, `passes`, which `passes-sound` says is the rule's.
 -- Assumes nothing.
 use Prim.Native.Nat.{ℕ, _+_, _*_, _≤_, _<_}
 use mathlib.Core.Path.{_≡_, refl, _∙_}
@@ -12,11 +12,11 @@ use lib.ListN.{length, take, drop-of-length-le, length-take}
 use lib.Seq.{slice, slice-cons, length-take-le, take-suc, drop-append-le}
 use lib.Dec.{ltb, eqb}
 use Rattle.rules.specs.declared.Shape.{Shape}
-use Rattle.rules.specs.Lists.{bitOf, count, all, any}
+use Rattle.rules.specs.Lists.{bitOf, count, all}
 use Rattle.rules.specs.Word.{Word, zeroWord, wordOf}
 use Rattle.rules.specs.Bytes.{wordsOf}
 use Rattle.rules.specs.Shape.{remainders}
-use Rattle.rules.specs.Table.{at, between, endsInChange, rising, soundRun, locked}
+use Rattle.rules.specs.Table.{at, between, endsInChange, rising, soundRun}
 use Rattle.theory.specs.Dealt.{isChange, isVirgin, isOccupied, isLow}
 use Rattle.cluster.specs.Scan.{words-count}
 
@@ -43,17 +43,8 @@ module _ (bs : List ℕ) (i r : ℕ) where
 pub run-after : (bs : List ℕ) (l r : ℕ) → slice (l + 1) r (wordsOf bs) ≡ between (wordsOf bs) l r
 run-after bs l r = rw add-one
 
--- ---- a lock bit, an empty place
+-- ---- an empty place
 module _ (bs : List ℕ) (i r : ℕ) (h : i < r) (within : 2 * r ≤ length bs) where
-  pub lock-passed :
-      at (wordsOf bs) i .lock ≡ false → locked (slice (i + 1) r (wordsOf bs)) ≡ locked (slice i r (wordsOf bs))
-  unfolding locked any
-  lock-passed e = rw (run-step bs i r h within, e)
-
-  pub lock-met : at (wordsOf bs) i .lock ≡ true → locked (slice i r (wordsOf bs)) ≡ true
-  unfolding locked any
-  lock-met e = rw (run-step bs i r h within, e)
-
   pub occupied-passed :
       at (wordsOf bs) i .occupied ≡ true →
       all isOccupied (slice (i + 1) r (wordsOf bs)) ≡ all isOccupied (slice i r (wordsOf bs))
@@ -63,10 +54,6 @@ module _ (bs : List ℕ) (i r : ℕ) (h : i < r) (within : 2 * r ≤ length bs) 
   pub gap-met : at (wordsOf bs) i .occupied ≡ false → all isOccupied (slice i r (wordsOf bs)) ≡ false
   unfolding all
   gap-met e = rw (run-step bs i r h within, e)
-
-pub lock-end : (bs : List ℕ) (i r : ℕ) → r ≤ i → locked (slice i r (wordsOf bs)) ≡ false
-unfolding locked any
-lock-end bs i r h = rw (run-end bs i r h)
 
 pub occupied-end : (bs : List ℕ) (i r : ℕ) → r ≤ i → all isOccupied (slice i r (wordsOf bs)) ≡ true
 unfolding all

@@ -1,4 +1,4 @@
--- The gaps on the two sides of a place, found from place to place: a step, the stop and the end of each search.
+-- The gaps on the two sides of a place, found from place to place: a step and the stop of each search.
 -- Assumes nothing.
 use Prim.Native.Nat.{ℕ, zero, suc, _+_, _-_, _/_, _≤_, _<_}
 use mathlib.Core.Path.{_≡_, refl}
@@ -30,11 +30,6 @@ module _ (os : List Bool) where
   unfolding leftGap
   left-stop zero h t = absurd (omega arith)
   left-stop (suc i) h t = rw t
-
-  pub left-end : (i : ℕ) → i ≤ 0 → leftGap os i ≡ 0
-  unfolding leftGap
-  left-end zero h = refl
-  left-end (suc i) h = absurd (omega arith)
 
   -- to the right
   pub right-step : (i : ℕ) → i < length os → getD os i false ≡ true → rightGap os (i + 1) ≡ rightGap os i

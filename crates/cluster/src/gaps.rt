@@ -1,6 +1,6 @@
-// The gaps on the two sides of a place: the empty places at the ends of its cluster (01, Shape and layout); and the
-// ends of a home's cluster, with its bits counted on the way to them.
-use crate::bit::bit_of;
+// The ends of a home's cluster (01, Shape and layout): the empty places there, with the bits of the cluster counted on
+// the way to them, or the right one alone.
+use words::bit::bit_of;
 use words::bytes::word_at;
 use words::place::Place;
 use words::word::change;
@@ -12,7 +12,7 @@ ghost use Prim.Native.Nat.{_+_, _*_, _≤_, _<_};
 ghost use lib.ListN.{length, getD};
 ghost use Rattle.rules.specs.Bytes.{wordsOf};
 ghost use Rattle.rules.specs.Table as spec;
-ghost use Rattle.rules.specs.Table.{at, leftGap, rightGap};
+ghost use Rattle.rules.specs.Table.{at, rightGap};
 ghost use Rattle.cluster.specs.Ends.{leftEnd, rightEnd};
 
 fn taken(table: &[u8], p: Place) -> bool
@@ -20,21 +20,6 @@ fn taken(table: &[u8], p: Place) -> bool
     ensures { λ b. ⌜ b ≡ getD (spec.occupied (wordsOf (now (table .entry)))) (p .0) false ⌝ }
 {
     occupied(word_at(table, p))
-}
-
-pub fn left_gap(table: &[u8], p: Place) -> Place
-    requires { ⌜ 2 * p .0 + 1 < length (now table) ⌝ }
-    ensures { λ q. ⌜ q .0 ≡ leftGap (spec.occupied (wordsOf (now (table .entry)))) (p .0) ⌝ }
-{
-    let mut i = p.0;
-    while i > 0 {
-        if taken(table, Place(i)) {
-            i -= 1;
-        } else {
-            return Place(i);
-        }
-    }
-    Place(0)
 }
 
 // A table that has no gap there ends the search: the place is then the number of its words.

@@ -1,7 +1,7 @@
 // The keys of a home's cluster held against one key: is it there, how many are smaller, and the mark that it would get
 // (01, Tasks and their steps, phase 7). Find, put and the read step use it.
-use crate::bit::bit_of;
 use crate::gaps::End;
+use words::bit::bit_of;
 use words::bytes::word_at;
 use words::place::Place;
 use words::word::change;
@@ -15,7 +15,6 @@ ghost use lib.Seq.{slice};
 ghost use Rattle.rules.specs.Lists.{count};
 ghost use Rattle.rules.specs.Bytes.{wordsOf};
 ghost use Rattle.theory.specs.Dealt.{isChange};
-ghost use Rattle.cluster.specs.Homes.{homesFrom, firstOf};
 ghost use Rattle.cluster.specs.Read as spec;
 ghost use Rattle.cluster.specs.Read.{entry, unseen};
 ghost use Rattle.cluster.specs.Group.{wordsFrom, passed, more, readSeen, groupRead};
@@ -36,23 +35,6 @@ struct Seen {
     smaller: u32,
     grouped: bool,
     largest: bool,
-}
-
-// The first place with virgin from p on, up to r: r itself if there is none.
-pub fn next_virgin(table: &[u8], p: Place, r: Place) -> Place
-    requires { ⌜ 2 * r .0 ≤ length (now table) ⌝ }
-    ensures { λ q. ⌜ q .0 ≡ firstOf (r .0) (homesFrom (wordsOf (now (table .entry))) (r .0) (p .0)) ⌝ }
-{
-    let end = r.0;
-    let mut i = p.0;
-    while i < end {
-        if virgin(word_at(table, Place(i))) {
-            return Place(i);
-        } else {
-            i += 1;
-        }
-    }
-    r
 }
 
 // One more key of the group is seen, that of remainder y, where that of remainder x is looked for.

@@ -1,7 +1,7 @@
 // A run of places seen as one: is any locked, are all occupied, is it a sound cluster (01, Shape and layout).
-use crate::bit::bit_of;
 use crate::gaps::End;
 use rules::Shape;
+use words::bit::bit_of;
 use words::bytes::word_at;
 use words::place::Place;
 use words::shape::remainders;
@@ -15,7 +15,6 @@ use words::word::with_change;
 ghost use mathlib.Core.Path.{_≡_};
 ghost use Prim.Native.Nat.{_+_, _*_, _≤_, _<_};
 ghost use lib.ListN.{length};
-ghost use lib.Seq.{slice};
 ghost use Rattle.rules.specs.Lists.{count, all};
 ghost use Rattle.rules.specs.Word.{wordOf};
 ghost use Rattle.rules.specs.Bytes.{wordsOf};
@@ -25,23 +24,6 @@ ghost use Rattle.theory.specs.Dealt.{isChange, isVirgin, isOccupied};
 ghost use Rattle.cluster.specs.Run as spec;
 ghost use Rattle.cluster.specs.Check as check;
 ghost use Rattle.cluster.specs.Check.{checkOf};
-
-// Among the places from a on, up to b and without it.
-pub fn any_locked(table: &[u8], a: Place, b: Place) -> bool
-    requires { ⌜ 2 * b .0 ≤ length (now table) ⌝ }
-    ensures { λ t. ⌜ t ≡ locked (slice (a .0) (b .0) (wordsOf (now (table .entry)))) ⌝ }
-{
-    let end = b.0;
-    let mut i = a.0;
-    while i < end {
-        if lock(word_at(table, Place(i))) {
-            return true;
-        } else {
-            i += 1;
-        }
-    }
-    false
-}
 
 pub fn all_occupied(table: &[u8], l: Place, r: Place) -> bool
     requires { ⌜ l .0 < r .0 ⌝ ∗ ⌜ 2 * r .0 ≤ length (now table) ⌝ }

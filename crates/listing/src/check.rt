@@ -2,6 +2,7 @@
 // word against the next and is made for vector units, the second counts homes, groups and keys from gap to gap.
 use cluster::guards::guards_void;
 use rules::Shape;
+use words::bit::bit_of;
 use words::bytes::word_at;
 use words::place::Place;
 use words::shape::homes;
@@ -15,7 +16,6 @@ use words::word::virgin;
 ghost use mathlib.Core.Path.{_≡_};
 ghost use Prim.Native.Nat.{_*_, _<_};
 ghost use lib.ListN.{length};
-ghost use Rattle.rules.specs.Lists.{bitOf};
 ghost use Rattle.rules.specs.Word.{wordOf};
 ghost use Rattle.rules.specs.Bytes.{wordsOf};
 ghost use Rattle.rules.specs.Shape.{places};
@@ -47,12 +47,6 @@ fn end_of(sh: Shape) -> Place
     ensures { λ p. ⌜ p .0 ≡ places sh ⌝ }
 {
     Place(homes(sh) + 2)
-}
-
-fn bit_of(b: bool) -> u32
-    ensures { λ n. ⌜ (n ≡ bitOf b) × (n < 2) ⌝ }
-{
-    if b { 1 } else { 0 }
 }
 
 // Whether the word v may stand before the word w.

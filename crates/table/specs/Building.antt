@@ -2,13 +2,13 @@
 -- what build answers by whether all of them found room.
 -- Assumes nothing.
 use Prim.Native.Nat.{ℕ, zero, suc, _+_, _*_, _≤_, _<_}
-use mathlib.Core.Path.{_≡_, refl, sym, _∙_, ap, ap₂}
+use mathlib.Core.Path.{_≡_, refl, sym, _∙_, ap}
 use mathlib.Core.Bool.{Bool, true, false, cond}
 use mathlib.Core.List.{List, [], _∷_, _++_, append-nil, map}
 use native.Mathlib.Numerals.{add-one}
 use native.Mathlib.Omega.{arith}
-use lib.ListN.{length, getD, set, take, drop, replicate, length-set, take-append-drop, drop-of-length-le, replicate-append-replicate}
-use lib.Seq.{drop-cons, take-suc-set, drop-set-lt, drop-drop}
+use lib.ListN.{length, getD, drop, replicate, drop-of-length-le}
+use lib.Seq.{drop-cons}
 use lib.Dec.{ltb}
 use borrow.Author.Tests.{ltb-true}
 use Rattle.rules.specs.declared.Shape.{Shape}

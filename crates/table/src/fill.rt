@@ -2,6 +2,7 @@
 use rules::FillAnswer;
 use rules::Refusal;
 use rules::Shape;
+use words::bit::bit_of;
 use words::bytes::word_at;
 use words::place::Place;
 use words::shape::good_table;
@@ -9,22 +10,15 @@ use words::shape::homes;
 use words::shape::shape_of;
 use words::word::occupied;
 ghost use mathlib.Core.Path.{_≡_};
-ghost use Prim.Native.Nat.{_*_, _≤_, _<_};
+ghost use Prim.Native.Nat.{_*_, _≤_};
 ghost use lib.ListN.{length};
-ghost use Rattle.rules.specs.Lists.{bitOf, count};
+ghost use Rattle.rules.specs.Lists.{count};
 ghost use Rattle.rules.specs.Bytes.{wordsOf};
 ghost use Rattle.rules.specs.Shape.{places};
 ghost use Rattle.rules.specs.Fill.{figure as spec-figure, fill as spec-fill};
 ghost use Rattle.rules.specs.Answer.{fillSays};
 ghost use Rattle.words.specs.Range.{InRange};
 ghost use Rattle.theory.specs.Dealt.{isOccupied};
-
-// A bit as a number.
-fn bit_of(b: bool) -> u32
-    ensures { λ n. ⌜ (n ≡ bitOf b) × (n < 2) ⌝ }
-{
-    if b { 1 } else { 0 }
-}
 
 // The occupied ones among the n places of a table.
 fn count_occupied(table: &[u8], n: u32) -> u32

@@ -4,7 +4,7 @@ use Prim.Native.Nat.{ℕ}
 use borrow.Author.Needs.{needs}
 use mathlib.Core.Path.{sym}
 use native.Mathlib.Omega.{arith}
-use Rattle.cluster.specs.Read.{entry, look-below, look-above, look-equal}
+use Rattle.cluster.specs.Read.{look-below, look-above, look-equal}
 use Rattle.cluster.proofs.read.look.Statement.{statement}
 use Rattle.cluster.proofs.read.look.Tie as tie
 

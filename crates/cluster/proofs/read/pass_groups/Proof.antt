@@ -5,9 +5,7 @@ use mathlib.Core.Path.{_≡_, refl, sym, _∙_, ap}
 use borrow.Author.Needs.{needs}
 use native.Mathlib.Omega.{arith}
 use denote.Ref.{now}
-use lib.Seq.{slice}
 use Rattle.rules.specs.Lists.{bitOf, count}
-use Rattle.rules.specs.Bytes.{wordsOf}
 use Rattle.theory.specs.Dealt.{isChange}
 use Rattle.cluster.specs.Group.{passed, placesOf, wordsFrom, group-there, word-past, fewer-groups, passed-all}
 use Rattle.cluster.proofs.read.pass_groups.Statement.{statement}

@@ -9,7 +9,7 @@ use borrow.Author.Tests.{not-true, not-false}
 use native.Mathlib.Nat.{zero-add}
 use native.Mathlib.Omega.{arith}
 use denote.Ref.{now}
-use Rattle.rules.specs.Lists.{bitOf, count}
+use Rattle.rules.specs.Lists.{count}
 use Rattle.rules.specs.Word.{wordOf}
 use Rattle.rules.specs.Bytes.{wordsOf}
 use Rattle.rules.specs.Table.{at}

@@ -1,7 +1,6 @@
 -- `find_cluster` meets its contract: what the check of the cluster tells, then what the read tells.
 -- Assumes nothing.
 use mathlib.Core.Path.{refl, sym, _∙_, ap}
-use borrow.Author.Needs.{needs}
 use denote.Ref.{now}
 use Rattle.rules.specs.Lists.{bitOf}
 use Rattle.rules.specs.Bytes.{wordsOf}

@@ -1,4 +1,4 @@
-// A bit as a number, for the counts and the cursors of this crate.
+// A bit as a number, for the counts and the cursors of the crates above.
 ghost use mathlib.Core.Path.{_≡_};
 ghost use Prim.Native.Nat.{_<_};
 ghost use Rattle.rules.specs.Lists.{bitOf};
