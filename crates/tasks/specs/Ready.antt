@@ -1,9 +1,9 @@
 -- What has been asked before a phase acts (01, Tasks and their steps), and what follows for the places that the record
 -- names: each stands in the table, and an occupied one is no guard.
 -- Assumes nothing.
-use Prim.Native.Nat.{ℕ, zero, suc, _+_, _*_, _≤_, _<_}
-use mathlib.Core.Path.{_≡_, sym, _∙_}
-use mathlib.Core.Bool.{true, and-eq-true-iff, true≢false}
+use Prim.Native.Nat.{ℕ, suc, _+_, _*_, _≤_, _<_}
+use mathlib.Core.Path.{_≡_, _∙_}
+use mathlib.Core.Bool.{true, false}
 use mathlib.Core.List.{List}
 use native.Mathlib.Omega.{arith}
 use lib.ListN.{length}
@@ -17,8 +17,10 @@ use Rattle.rules.specs.Table.{at, guardsVoid}
 use Rattle.rules.specs.Record.{homePlace}
 use Rattle.words.specs.Range.{InRange, homes-high, remainders-high}
 use Rattle.words.specs.Split.{split-in-shape, remainder-below}
+use Rattle.theory.specs.Dealt.{and-left}
 use Rattle.theory.specs.Places.{void-free}
 use Rattle.theory.specs.Motion.{toward, toward-lt}
+use Rattle.cluster.specs.Ends.{some-before}
 use Rattle.tasks.specs.Fit.{Fits, FitsHand}
 
 -- a shape in range, a table of its length, void guards, and a record in phase n that fits
@@ -104,12 +106,10 @@ module _ {n : ℕ} {sh : Shape} {bytes : List ℕ} {t : Task} (ready : Ready n s
       let below = toward-lt (t .hand) (t .goal) (suc (homes sh)) (hand-apart e) (omega arith) (omega arith) in
       inside (omega arith)
 
-  -- an occupied place is not the left guard
-  pub occupied-positive : (p : ℕ) → at (wordsOf bytes) p .occupied ≡ true → 1 ≤ p
+  -- the left guard is unoccupied, so an occupied place is another
+  pub guard-free : at (wordsOf bytes) 0 .occupied ≡ false
   unfolding guardsVoid
-  occupied-positive zero e =
-      let void =
-      and-eq-true-iff
-      (isVoid (at (wordsOf bytes) 0)) (isVoid (at (wordsOf bytes) (rightGuard sh))) .0 (ready .guards) .0 in
-      absurd (true≢false (sym e ∙ void-free (at (wordsOf bytes) 0) void))
-  occupied-positive (suc p) e = omega arith
+  guard-free = void-free (at (wordsOf bytes) 0) (and-left (isVoid (at (wordsOf bytes) 0)) _ (ready .guards))
+
+  pub occupied-positive : (p : ℕ) → at (wordsOf bytes) p .occupied ≡ true → 1 ≤ p
+  occupied-positive p full = some-before (wordsOf bytes) p guard-free full

@@ -1,7 +1,9 @@
 // Phase 7: a busy task that holds both locks reads the keys between them. It writes no word.
 use crate::busy::Busy;
+use cluster::gaps::left_end;
 use cluster::read::Read;
-use cluster::read::read_between;
+use cluster::read::group_start;
+use cluster::read::read_from;
 use cluster::run::all_occupied;
 use cluster::run::sound_run;
 use rules::Shape;
@@ -86,7 +88,9 @@ impl Busy {
         if readable(sh, table, t) {
             let home = home_place(sh, t.key);
             let remainder = remainder_of(sh, t.key);
-            let read = read_between(table, Place(t.left), Place(t.right), home, remainder);
+            let l = left_end(table, home);
+            let p = group_start(table, l, home);
+            let read = read_from(table, l.gap, p, home, remainder);
             return Turn::Next(after_read(sh, t, read));
         }
         Turn::Next(Task {
