@@ -8,7 +8,7 @@ use mathlib.Core.Bool.{Bool, true, false, not, _&&_, _||_, and-true, or-false, a
 use mathlib.Core.List.{List, [], _∷_, _++_}
 use native.Mathlib.Numerals.{add-one}
 use native.Mathlib.Omega.{arith}
-use lib.Bits.{bitOr, or-lt, or-mod, or-comm, or-add-and, and-le-r}
+use lib.Bits.{bitOr, or-lt, or-mod}
 use lib.Dec.{ltb, eqb}
 use lib.ListN.{length}
 use lib.Seq.{slice}
@@ -21,6 +21,7 @@ use Rattle.rules.specs.Shape.{remainders}
 use Rattle.rules.specs.Table.{at, between, endsInChange, rising, soundRun, locked}
 use Rattle.theory.specs.Dealt.{isChange, isVirgin, isLow, and-left}
 use Rattle.words.specs.Range.{some-remainders}
+use Rattle.words.specs.Over.{over-below}
 use Rattle.cluster.specs.Run.{run-step, run-end, run-last, run-after}
 use Rattle.cluster.specs.declared.run.Check.{Check}
 
@@ -35,19 +36,6 @@ check-path : {c d : Check} → c .sound ≡ d .sound → c .locked ≡ d .locked
 check-path p q = λ i. record { sound = p i; locked = q i }
 
 -- ---- numbers laid over one another
-or-above : (a b : ℕ) → b ≤ bitOr a b
-or-above a b = omega (arith, or-add-and b a, and-le-r b a, or-comm a b)
-
-over-below : (d a b : ℕ) → ltb (bitOr a b) (2 ^ d) ≡ (ltb a (2 ^ d) && ltb b (2 ^ d))
-over-below d a b = go (ltb a (2 ^ d)) (ltb b (2 ^ d)) refl refl
-  where
-    go :
-        (s t : Bool) → ltb a (2 ^ d) ≡ s → ltb b (2 ^ d) ≡ t → ltb (bitOr a b) (2 ^ d) ≡ (s && t)
-    go true true p q = lt-ltb _ _ (or-lt d a b (ltb-true a _ p) (ltb-true b _ q))
-    go true false p q = le-ltb (bitOr a b) (2 ^ d) (omega (arith, ltb-false b (2 ^ d) q, or-above a b))
-    go false t p q =
-        le-ltb (bitOr a b) (2 ^ d) (omega (arith, ltb-false a (2 ^ d) p, or-above b a, or-comm a b))
-
 pub over-low :
     (sh : Shape) (a b : ℕ) →
     ltb (wordOf (bitOr a b) .remainder) (remainders sh)

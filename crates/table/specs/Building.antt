@@ -3,14 +3,16 @@
 -- Assumes nothing.
 use Prim.Native.Nat.{ℕ, zero, suc, _+_, _*_, _≤_, _<_}
 use mathlib.Core.Path.{_≡_, refl, sym, _∙_, ap}
-use mathlib.Core.Bool.{Bool, true, false, cond}
+use mathlib.Core.Bool.{Bool, true, false, cond, _&&_}
 use mathlib.Core.List.{List, [], _∷_, _++_, append-nil, map}
 use native.Mathlib.Numerals.{add-one}
 use native.Mathlib.Omega.{arith}
 use lib.ListN.{length, getD, drop, replicate, drop-of-length-le}
 use lib.Seq.{drop-cons}
+use lib.Bits.{bitOr}
 use lib.Dec.{ltb}
-use borrow.Author.Tests.{ltb-true}
+use lib.Pow.{pow-pos}
+use borrow.Author.Tests.{ltb-true, lt-ltb}
 use Rattle.rules.specs.declared.Shape.{Shape}
 use Rattle.rules.specs.Lists.{all}
 use Rattle.rules.specs.Word.{Word, zeroWord, wordOf}
@@ -19,6 +21,8 @@ use Rattle.rules.specs.Shape.{keys, places}
 use Rattle.rules.specs.Entry.{split}
 use Rattle.rules.specs.Answer.{says, refuses, leaves}
 use Rattle.rules.specs.Build.{zeros, puts, tooMany, buildIn}
+use Rattle.words.specs.All.{all-asked, all-told}
+use Rattle.words.specs.Over.{over-below}
 use Rattle.words.specs.Range.{InRange, remainders-high}
 use Rattle.words.specs.Layout.{bytes-are}
 use Rattle.theory.specs.Dealt.{and-left, and-right}
@@ -28,6 +32,23 @@ use Rattle.table.specs.Filling.{Filled, overflows, filled, filledIf, fil
 -- a key in range
 abbrev pub good : Shape → ℕ → Bool
 good sh key = ltb key (keys sh)
+
+-- the keys so far, laid over one another, and the one at i
+module _ (sh : Shape) (ks : List ℕ) (over i : ℕ) where
+  pub goods-begin : good sh 0 ≡ true
+  unfolding keys
+  goods-begin = lt-ltb 0 (keys sh) (pow-pos (sh .m + sh .r))
+
+  pub goods-on :
+      i < length ks →
+      (good sh (bitOr over (getD ks i 0)) && all (good sh) (drop (i + 1) ks)) ≡ (good sh over && all (good sh) (drop i ks))
+  unfolding keys
+  goods-on low =
+      rw (over-below (sh .m + sh .r) over (getD ks i 0))
+      (all-asked (good sh) ks i 0 low (good sh over) (good sh (getD ks i 0)) refl)
+
+  pub goods-end : length ks ≤ i → (good sh over && all (good sh) (drop i ks)) ≡ good sh over
+  goods-end done = all-told (good sh) ks i 0 done (good sh over)
 
 pub key-good : (sh : Shape) (ks : List ℕ) (i : ℕ) → i < length ks → all (good sh) ks ≡ true → getD ks i 0 < keys sh
 unfolding all

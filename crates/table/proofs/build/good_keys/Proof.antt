@@ -1,35 +1,35 @@
--- `good_keys` meets its contract. The invariant: what was asked and the keys to come tell the whole.
+-- `good_keys` meets its contract. The invariant: the keys so far, laid over one another, and the keys to come tell the
+-- whole.
 -- Assumes nothing.
 use Prim.Native.Nat.{_-_}
-use mathlib.Core.Path.{_≡_, refl, sym, _∙_}
-use mathlib.Core.Bool.{_&&_}
+use mathlib.Core.Path.{_≡_, sym, _∙_, ap}
+use mathlib.Core.Bool.{Bool, _&&_}
 use borrow.Author.Needs.{needs}
 use native.Mathlib.Omega.{arith}
 use denote.Ref.{now}
 use lib.ListN.{length, drop}
 use Rattle.rules.specs.Lists.{all}
-use Rattle.words.specs.All.{all-asked, all-told}
-use Rattle.table.specs.Building.{good as in-range}
+use Rattle.table.specs.Building.{good, goods-begin, goods-on, goods-end}
 use Rattle.table.proofs.build.good_keys.Statement.{statement}
 use Rattle.table.proofs.build.good_keys.Tie as tie
 
 abbrev Inv-loop : tie.InvT-loop
-Inv-loop sh keys good₀ i₀ good i = (good && all (in-range sh) (drop i keys)) ≡ all (in-range sh) keys
+Inv-loop sh keys over₀ i₀ over i = (good sh over && all (good sh) (drop i keys)) ≡ all (good sh) keys
 
 abbrev μ-loop : tie.MeasureT-loop
-μ-loop sh keys good₀ i₀ good i = length keys - i
+μ-loop sh keys over₀ i₀ over i = length keys - i
 
 loop-holds : tie.Need-loop-holds Inv-loop μ-loop
-loop-holds c = refl
+loop-holds c =
+    let start = c .before in
+    let ks = now (start .args .keys) in
+    ap (λ (b : Bool). b && all (good (start .args .sh)) ks) (goods-begin (start .args .sh) ks 0 0)
 
-mul-good-key : tie.Need-mul-good-key Inv-loop μ-loop
-mul-good-key c = search needs
+mul-over : tie.Need-mul-over Inv-loop μ-loop
+mul-over c = search needs
 
-shared-slice-read-good-key : tie.Need-shared-slice-read-good-key Inv-loop μ-loop
-shared-slice-read-good-key c = omega arith
-
-good-key-requires : tie.Need-good-key-requires Inv-loop μ-loop
-good-key-requires c κs = search needs
+shared-slice-read-over : tie.Need-shared-slice-read-over Inv-loop μ-loop
+shared-slice-read-over c = omega arith
 
 add-i : tie.Need-add-i Inv-loop μ-loop
 add-i c = omega arith
@@ -39,32 +39,33 @@ loop-less c = omega arith
 
 loop-again : tie.Need-loop-again Inv-loop μ-loop
 loop-again c =
-    let turn = c .before .before in
+    let turn = c .before in
     let head = turn .before in
     let start = head .before .before in
-    all-asked
-    (in-range (start .args .sh))
+    goods-on
+    (start .args .sh)
     (now (start .args .keys))
+    (head .loop .over)
     (head .loop .i)
-    0
     (turn .loop-test .taken)
-    (head .loop .good)
-    (c .good-key .result)
-    (c .good-key .ensures)
     ∙ head .loop .inv
+
+good-key-requires : tie.Need-good-key-requires Inv-loop μ-loop
+good-key-requires c κs = search needs
 
 returns : tie.Need-returns Inv-loop μ-loop
 returns c =
-    let head = c .before in
+    let done = c .before in
+    let head = done .before in
     let start = head .before .before in
-    sym
-    (all-told
-    (in-range (start .args .sh))
+    c .good-key .ensures
+    ∙ sym
+    (goods-end
+    (start .args .sh)
     (now (start .args .keys))
+    (head .loop .over)
     (head .loop .i)
-    0
-    (c .loop-test .left)
-    (head .loop .good))
+    (done .loop-test .left))
     ∙ head .loop .inv
 
 pub good-keys-spec : {M : Type 1} → statement M
@@ -74,10 +75,10 @@ good-keys-spec =
     Inv-loop
     μ-loop
     loop-holds
-    mul-good-key
-    shared-slice-read-good-key
-    good-key-requires
+    mul-over
+    shared-slice-read-over
     add-i
     loop-less
     loop-again
+    good-key-requires
     returns)
