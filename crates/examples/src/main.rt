@@ -1,15 +1,15 @@
 // The examples of document 01 (Examples) for build, list, find, put and the fill figure, one line for each call.
 // Whatever follows a colon is what the call answered and what it left in the table.
 use listing::list::list;
+use putting::build::build;
+use putting::put::put;
 use rules::Done;
 use rules::FillAnswer;
 use rules::FindAnswer;
 use rules::ListAnswer;
 use rules::PutAnswer;
-use table::build::build;
 use table::fill::fill;
 use table::find::find;
-use table::put::put;
 
 fn show_build(m: u32, r: u32, table: &mut [u8], keys: &[u32]) {
     io::write_all(1, b"build");

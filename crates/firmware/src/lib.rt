@@ -3,9 +3,9 @@
 use packed::pack_fill;
 use packed::pack_find;
 use packed::pack_put;
+use putting::put::put;
 use table::fill::fill;
 use table::find::find;
-use table::put::put;
 ghost use mathlib.Core.Path.{_≡_};
 ghost use Rattle.rules.specs.Find.{find as spec-find};
 ghost use Rattle.rules.specs.Put.{put as spec-put};

@@ -3,7 +3,7 @@
 use listing::list::list;
 use packed::pack_done;
 use packed::pack_list;
-use table::build::build;
+use putting::build::build;
 ghost use mathlib.Core.Path.{_≡_};
 ghost use Rattle.rules.specs.Build.{build as spec-build};
 ghost use Rattle.rules.specs.Listing.{listing as spec-list};

@@ -1,8 +1,5 @@
--- Laws that the calls on a table rest on.
+-- Laws that the calls on a table rest on: the surroundings of a home, a key's entry, find, and the count of the fill.
 pub mod Around
-pub mod Building
 pub mod Count
-pub mod Filling
 pub mod Finding
 pub mod Key
-pub mod Putting

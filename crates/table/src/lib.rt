@@ -1,6 +1,4 @@
-// The calls on a table (01, Answers and their numbers). Each public call takes bare numbers and lent bytes, requires
-// nothing, and is one equation with the rules' definition for every input.
-pub mod build;
+// The calls that ask a table (01, Answers and their numbers): find, and the fill figure. Both take bare numbers and lent
+// bytes, require nothing, and are one equation with the rules' definition for every input.
 pub mod fill;
 pub mod find;
-pub mod put;
