@@ -3,9 +3,9 @@
 use borrow.Author.Needs.{needs}
 use Prim.Native.Nat.{_-_}
 use lib.ListN.{length}
-use Rattle.frames.specs.Hold.{Copied, copied-none, copied-more, copied-all}
-use Rattle.frames.proofs.hold.append.Statement.{statement}
-use Rattle.frames.proofs.hold.append.Tie as tie
+use Rattle.holding.specs.Hold.{Copied, copied-none, copied-more, copied-all}
+use Rattle.holding.proofs.hold.append.Statement.{statement}
+use Rattle.holding.proofs.hold.append.Tie as tie
 
 abbrev Inv-loop : tie.InvT-loop
 Inv-loop line₀ held more i₀ line i = Copied line₀ held more i line

@@ -9,7 +9,7 @@ ghost use mathlib.Core.Bool.{_&&_};
 ghost use Rattle.rules.specs.Record.{within};
 ghost use Rattle.rules.specs.Answer.{doneSays};
 ghost use Rattle.format.specs.Feed.{ifAmong};
-ghost use Rattle.frames.specs.Check.{refusalBy};
+ghost use Rattle.holding.specs.Check.{refusalBy};
 
 // Among frames, m is 1 to 14 and r 1 to 12.
 fn shape_fine(run: Run) -> bool

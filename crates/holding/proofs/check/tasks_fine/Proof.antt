@@ -1,9 +1,9 @@
 -- `tasks_fine` meets its contract, by the run's stage and test by test.
 -- Assumes nothing.
 use borrow.Author.Needs.{needs}
-use Rattle.frames.specs.Check.{tasks-in, tasks-low, tasks-high}
-use Rattle.frames.proofs.check.tasks_fine.Statement.{statement}
-use Rattle.frames.proofs.check.tasks_fine.Tie as tie
+use Rattle.holding.specs.Check.{tasks-in, tasks-low, tasks-high}
+use Rattle.holding.proofs.check.tasks_fine.Statement.{statement}
+use Rattle.holding.proofs.check.tasks_fine.Tie as tie
 
 enum-told : tie.Need-enum-told
 enum-told c = search needs

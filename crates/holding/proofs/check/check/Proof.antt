@@ -1,9 +1,9 @@
 -- `check` meets its contract, test by test.
 -- Assumes nothing.
 use borrow.Author.Needs.{needs}
-use Rattle.frames.specs.Check.{by-shape, by-table, by-tasks, by-line, by-out, by-none}
-use Rattle.frames.proofs.check.check.Statement.{statement}
-use Rattle.frames.proofs.check.check.Tie as tie
+use Rattle.holding.specs.Check.{by-shape, by-table, by-tasks, by-line, by-out, by-none}
+use Rattle.holding.proofs.check.check.Statement.{statement}
+use Rattle.holding.proofs.check.check.Tie as tie
 
 shape-fine-requires : tie.Need-shape-fine-requires
 shape-fine-requires c κs = search needs

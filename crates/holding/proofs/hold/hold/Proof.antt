@@ -1,9 +1,9 @@
 -- `hold` meets its contract: there is room for the bytes, or the line is too long.
 -- Assumes nothing.
 use borrow.Author.Needs.{needs}
-use Rattle.frames.specs.Hold.{hold-fits, hold-long, hold-over}
-use Rattle.frames.proofs.hold.hold.Statement.{statement}
-use Rattle.frames.proofs.hold.hold.Tie as tie
+use Rattle.holding.specs.Hold.{hold-fits, hold-long, hold-over}
+use Rattle.holding.proofs.hold.hold.Statement.{statement}
+use Rattle.holding.proofs.hold.hold.Tie as tie
 
 append-requires : tie.Need-append-requires
 append-requires c κs = search needs

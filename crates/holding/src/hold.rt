@@ -4,7 +4,7 @@ ghost use mathlib.Core.List.{_++_};
 ghost use Prim.Native.Nat.{_+_, _≤_};
 ghost use lib.ListN.{length, take, drop};
 ghost use Rattle.format.specs.Feed.{heldAfter, lineAfter};
-ghost use Rattle.frames.specs.Hold.{holding};
+ghost use Rattle.holding.specs.Hold.{holding};
 
 // More bytes, from a place of the line on.
 fn append(line: &mut [u8], held: usize, more: &[u8])

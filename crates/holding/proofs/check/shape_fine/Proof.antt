@@ -1,9 +1,9 @@
 -- `shape_fine` meets its contract, by the run's stage and test by test.
 -- Assumes nothing.
 use borrow.Author.Needs.{needs}
-use Rattle.frames.specs.Check.{shape-in, shape-low-r, shape-high-r, shape-low-m, shape-high-m}
-use Rattle.frames.proofs.check.shape_fine.Statement.{statement}
-use Rattle.frames.proofs.check.shape_fine.Tie as tie
+use Rattle.holding.specs.Check.{shape-in, shape-low-r, shape-high-r, shape-low-m, shape-high-m}
+use Rattle.holding.proofs.check.shape_fine.Statement.{statement}
+use Rattle.holding.proofs.check.shape_fine.Tie as tie
 
 enum-told : tie.Need-enum-told
 enum-told c = search needs
