@@ -20,8 +20,8 @@ use Rattle.format.specs.Feed.{Feeding, feeds, refused, closes, holds, feedGood,
 use Rattle.reader.specs.Line.{line-inside, end-met, line-is}
 use Rattle.pieces.specs.Feeding.{Ready, accepted, not-refused}
 use Rattle.closing.specs.declared.close.Closed.{Closed}
-use Rattle.frames.specs.Check.{refusalBy, refusal-by, some-number}
-use Rattle.frames.specs.Hold.{Holding, holding}
+use Rattle.holding.specs.Check.{refusalBy, refusal-by, some-number}
+use Rattle.holding.specs.Hold.{Holding, holding}
 use Rattle.closing.specs.Closing.{Closing, closed, closing}
 
 -- ---- the point in the piece, and where the line ends; beyond the piece's end both are its end

@@ -23,7 +23,7 @@ use Rattle.pieces.specs.Limits.{Fit}
 use Rattle.pieces.specs.Feeding as feeding
 use Rattle.pieces.specs.Feeding.{Ready, accepted, run-day, last-fits, last-line-prints}
 use Rattle.closing.specs.declared.close.Closed.{Closed}
-use Rattle.frames.specs.Check.{refusalBy, refusal-by, some-number}
+use Rattle.holding.specs.Check.{refusalBy, refusal-by, some-number}
 use Rattle.closing.specs.Closing.{Shown, shown, printing, Closing, closed, closing, lastClosing}
 
 -- ---- a last line that lacks its line feed

@@ -1,5 +1,3 @@
--- What the frame library's functions leave, and the laws of their loops and branches, by subject.
-pub mod Check
-pub mod Hold
+-- What the frame library's functions leave, and the laws of their branches, by subject.
 pub mod Feeding
 pub mod Finishing

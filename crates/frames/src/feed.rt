@@ -1,10 +1,10 @@
 // Feeding (01, The frame program): a run begins, and takes the rest of one line from a piece of its input.
-use crate::check::check;
-use crate::hold::hold;
 use closing::close::close;
 use format::FeedAnswer;
 use format::Run;
 use format::Stage;
+use holding::check::check;
+use holding::hold::hold;
 use reader::next_line;
 use rules::Done;
 ghost use mathlib.Core.Path.{_≡_};

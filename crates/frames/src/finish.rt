@@ -1,10 +1,10 @@
 // The end of the input (01, The frame program): a last line that lacks its line feed, and then the table.
-use crate::check::check;
 use closing::close::Closed;
 use closing::close::close;
 use closing::close::end;
 use format::FinishAnswer;
 use format::Run;
+use holding::check::check;
 use rules::Done;
 ghost use mathlib.Core.Path.{_≡_};
 ghost use Rattle.format.specs.Feed.{lent, lastLine, finishSays, finishGood, finish as spec-finish};

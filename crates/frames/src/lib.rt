@@ -1,6 +1,4 @@
 // The frame program as a library (01, The frame program): the input is fed in pieces of any size, and what is printed
 // stands at the front of a lent buffer. Memory is fixed.
-mod check;
 pub mod feed;
 pub mod finish;
-mod hold;

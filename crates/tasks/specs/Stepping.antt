@@ -1,12 +1,11 @@
 -- One step on one record (01, Tasks and their steps), for every input; a turn and the bytes read as the paper's answer.
 -- `step-one`: the rules' step is the step on the record of the task number, stored back.
--- `follows-left`: what a phase makes of the words it makes of every lent byte. `phase-1` to `phase-12`: by number.
+-- `follows-left`: what a phase makes of the words it makes of every lent byte.
 -- Assumes nothing.
-use Prim.Native.Nat.{ℕ, _*_, _≤_, _<_}
+use Prim.Native.Nat.{ℕ, _*_, _<_}
 use mathlib.Core.Path.{_≡_, refl, ap, sym}
 use mathlib.Core.Bool.{Bool, true, false, cond}
 use mathlib.Core.List.{List}
-use native.Mathlib.Omega.{arith}
 use lib.ListN.{length, getD, set}
 use lib.Seq.{set-getD}
 use Rattle.rules.specs.declared.Shape.{Shape}
@@ -14,16 +13,14 @@ use Rattle.rules.specs.declared.Task.{Task}
 use Rattle.rules.specs.declared.Turn.{Turn}
 use Rattle.rules.specs.declared.Turn.the-variants.{Next, Refused}
 use Rattle.rules.specs.declared.Refusal.the-variants.{Unsound}
-use Rattle.rules.specs.Word.{Word}
 use Rattle.rules.specs.Bytes.{wordsOf, bytesOf}
 use Rattle.rules.specs.Shape.{shapeOf, places, goodTable}
 use Rattle.rules.specs.Answer.{Answer, says, refuses, numberOfRefusal, Leaves, leaves}
 use Rattle.rules.specs.Give.{noTask, taskAt, goodTask}
-use Rattle.rules.specs.Phase as phase
 use Rattle.rules.specs.Phase.{Step, to, unsound}
 use Rattle.rules.specs.Step.{Stepped, steps, refused, orUnsound, ofPhase, stepOf, Lent, lentAfter, step}
 use Rattle.words.specs.Layout.{bytes-are, same-bytes}
-use Rattle.tasks.specs.Taken.{taken, takes, Follows}
+use Rattle.busy.specs.Taken.{taken, takes, Follows}
 
 -- the lent bytes and the record, as a step leaves them
 pub record Left : Type 0 where
@@ -97,56 +94,3 @@ follows-left sh t before turn after b a = go (ofPhase sh (wordsOf before) t)
         let bytes : after ≡ before =
         same-bytes after before (places sh) (a .size) (b .size) (a .small) (b .small) words in
         rw (turns, bytes)
-
--- a number from k on that is not k is above it
-pub above : {n : ℕ} (k : ℕ) → (n ≡ k → ⊥) → k ≤ n → k < n
-above k apart h = omega arith
-
-module _ (sh : Shape) (ws : List Word) (t : Task) where
-  pub phase-1 : t .phase ≡ 1 → ofPhase sh ws t ≡ phase.home sh ws t
-  unfolding ofPhase
-  phase-1 e = rw e
-
-  pub phase-2 : t .phase ≡ 2 → ofPhase sh ws t ≡ phase.lookLeft sh ws t
-  unfolding ofPhase
-  phase-2 e = rw e
-
-  pub phase-3 : t .phase ≡ 3 → ofPhase sh ws t ≡ phase.lookRight sh ws t
-  unfolding ofPhase
-  phase-3 e = rw e
-
-  pub phase-4 : t .phase ≡ 4 → ofPhase sh ws t ≡ phase.lockLeft sh ws t
-  unfolding ofPhase
-  phase-4 e = rw e
-
-  pub phase-5 : t .phase ≡ 5 → ofPhase sh ws t ≡ phase.lockRight sh ws t
-  unfolding ofPhase
-  phase-5 e = rw e
-
-  pub phase-6 : t .phase ≡ 6 → ofPhase sh ws t ≡ phase.backOff sh ws t
-  unfolding ofPhase
-  phase-6 e = rw e
-
-  pub phase-7 : t .phase ≡ 7 → ofPhase sh ws t ≡ phase.read sh ws t
-  unfolding ofPhase
-  phase-7 e = rw e
-
-  pub phase-8 : t .phase ≡ 8 → ofPhase sh ws t ≡ phase.fillHand sh ws t
-  unfolding ofPhase
-  phase-8 e = rw e
-
-  pub phase-9 : t .phase ≡ 9 → ofPhase sh ws t ≡ phase.move sh ws t
-  unfolding ofPhase
-  phase-9 e = rw e
-
-  pub phase-10 : t .phase ≡ 10 → ofPhase sh ws t ≡ phase.mark sh ws t
-  unfolding ofPhase
-  phase-10 e = rw e
-
-  pub phase-11 : t .phase ≡ 11 → ofPhase sh ws t ≡ phase.freeLeft sh ws t
-  unfolding ofPhase
-  phase-11 e = rw e
-
-  pub phase-12 : t .phase ≡ 12 → ofPhase sh ws t ≡ phase.freeRight sh ws t
-  unfolding ofPhase
-  phase-12 e = rw e

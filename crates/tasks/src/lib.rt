@@ -1,10 +1,4 @@
-// Tasks on records by value (01, Tasks and their steps): giving a key, whether a record fits, and one step.
+// Tasks on records by value (01, Tasks and their steps): giving a key, and one step.
 // The thin calls over lent records stand above this crate.
-mod busy;
-mod fits;
 pub mod give;
-mod lock;
-mod read;
-mod seek;
-mod settle;
 pub mod step;

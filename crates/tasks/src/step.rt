@@ -1,11 +1,12 @@
 // One step on a record by value (01, Tasks and their steps): refusals 1, 3, 5 and 6 in their order, then the phase.
-use crate::busy::Busy;
-use crate::fits::fits;
+use busy::fits::fits;
 use cluster::guards::guards_void;
 use rules::Refusal;
 use rules::Shape;
 use rules::Task;
 use rules::Turn;
+use seeking::seek::Seeking;
+use settling::settle::Settling;
 use words::shape::good_table;
 use words::shape::shape_of;
 ghost use mathlib.Core.Path.{_≡_};
@@ -15,9 +16,23 @@ ghost use lib.ListN.{length};
 ghost use Rattle.rules.specs.Bytes.{wordsOf};
 ghost use Rattle.rules.specs.Shape.{places};
 ghost use Rattle.rules.specs.Record.{atRest, fits as fit};
-ghost use Rattle.rules.specs.Step.{stepOf};
+ghost use Rattle.rules.specs.Step.{ofPhase, stepOf};
 ghost use Rattle.words.specs.Range.{InRange};
+ghost use Rattle.busy.specs.Ready.{Among};
+ghost use Rattle.busy.specs.Taken.{Follows};
 ghost use Rattle.tasks.specs.Stepping.{stepSays, leftAfter, stepOne};
+
+// On a busy record, by its phase: it seeks, or it settles its key.
+fn act(sh: Shape, table: &mut [u8], t: Task) -> Turn
+    requires { ⌜ Among 1 12 sh (now table) t ⌝ }
+    ensures { λ turn. ⌜ Follows ofPhase sh t (now (table .entry)) turn (now (table .exit)) ⌝ }
+{
+    let phase = t.phase;
+    match phase {
+        1..=6 => Seeking(t).seek(sh, table),
+        _ => Settling(t).settle(sh, table),
+    }
+}
 
 // On a busy record that fits: 6 by the guards or by the phase.
 fn busy_step(sh: Shape, table: &mut [u8], t: Task) -> Turn
@@ -26,7 +41,7 @@ fn busy_step(sh: Shape, table: &mut [u8], t: Task) -> Turn
         ≡ leftAfter (now (table .entry)) t (stepOf sh (wordsOf (now (table .entry))) t) ⌝ }
 {
     if guards_void(sh, table) {
-        Busy(t).act(sh, table)
+        act(sh, table, t)
     } else {
         Turn::Refused(Refusal::Unsound)
     }

@@ -6,7 +6,7 @@ use native.Mathlib.Omega.{arith}
 use lib.ListN.{take, drop}
 use Rattle.rules.specs.Lists.{all}
 use Rattle.rules.specs.Record.{atRest}
-use Rattle.tasks.specs.Fit.{resting, not-resting}
+use Rattle.busy.specs.Fit.{resting, not-resting}
 use Rattle.rounds.specs.Desk.{rest-on, rest-stops, rest-ends}
 use Rattle.rounds.proofs.round.all_at_rest.Statement.{statement}
 use Rattle.rounds.proofs.round.all_at_rest.Tie as tie

@@ -1,7 +1,7 @@
 -- `turn` meets its contract: the task is at rest or busy.
 -- Assumes nothing.
 use borrow.Author.Needs.{needs}
-use Rattle.tasks.specs.Fit.{resting, not-resting}
+use Rattle.busy.specs.Fit.{resting, not-resting}
 use Rattle.rounds.specs.Sitting.{turn-rest, turn-steps}
 use Rattle.rounds.proofs.turn.turn.Statement.{statement}
 use Rattle.rounds.proofs.turn.turn.Tie as tie

@@ -3,7 +3,7 @@
 use borrow.Author.Needs.{needs}
 use mathlib.Core.Logic.{⊎-elim}
 use Rattle.rules.specs.Give.{giveTo}
-use Rattle.tasks.specs.Fit.{is-busy, idle, done-or-beyond}
+use Rattle.busy.specs.Fit.{is-busy, idle, done-or-beyond}
 use Rattle.tasks.proofs.give.give_to.Statement.{statement}
 use Rattle.tasks.proofs.give.give_to.Tie as tie
 

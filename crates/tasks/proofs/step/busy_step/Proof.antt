@@ -5,7 +5,7 @@ use native.Mathlib.Omega.{arith}
 use mathlib.Core.Path.{refl, sym, _∙_}
 use denote.Ref.{now}
 use Rattle.rules.specs.Step.{stepOf}
-use Rattle.tasks.specs.Fit.{fitting, fitting-phase}
+use Rattle.busy.specs.Fit.{fitting, fitting-phase}
 use Rattle.tasks.specs.Stepping.{follows-left}
 use Rattle.tasks.proofs.step.busy_step.Statement.{statement}
 use Rattle.tasks.proofs.step.busy_step.Tie as tie
@@ -46,14 +46,14 @@ returns c =
           ∙ c .before .before .before .before .if1 .taken,
     )
     (follows-left (start .args .sh) (start .args .t) (now (start .args .table)) _
-    (c .before .before .act .last .1 .1 .0)
+    (c .before .before .act .last .1 .0)
     (record {
       size = size;
       small = λ i. omega
           (arith, c .before .before .before .before .before .before .before .slice-known .given i);
     })
     (record {
-      size = c .before .before .act .kept .1 .1 .0
+      size = c .before .before .act .kept .1 .0
           ∙ size;
       small = λ i. omega (arith, c .slice-known2 .given i);
     })

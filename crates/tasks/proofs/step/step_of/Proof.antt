@@ -3,7 +3,7 @@
 use borrow.Author.Needs.{needs}
 use mathlib.Core.Path.{sym, _∙_}
 use Rattle.rules.specs.Step.{stepOf}
-use Rattle.tasks.specs.Fit.{resting, not-resting}
+use Rattle.busy.specs.Fit.{resting, not-resting}
 use Rattle.tasks.proofs.step.step_of.Statement.{statement}
 use Rattle.tasks.proofs.step.step_of.Tie as tie
 
