@@ -3,7 +3,4 @@ pub mod Scan
 pub mod Run
 pub mod Ends
 pub mod Homes
-pub mod Read
-pub mod Group
-pub mod Beside
 pub mod Check

@@ -32,8 +32,8 @@ use Rattle.theory.specs.Gaps as gaps
 use Rattle.theory.specs.Places.{occupied-at}
 use Rattle.theory.specs.Motion.{fillAt, finish}
 use Rattle.theory.specs.Moving.{Addable, add-moves, room-alone, add-alone}
-use Rattle.cluster.specs.declared.read.Read.{Read}
-use Rattle.cluster.specs.Read.{readOf}
+use Rattle.reading.specs.declared.read.Read.{Read}
+use Rattle.reading.specs.Read.{readOf}
 use Rattle.cluster.specs.Ends.{leftEnd}
 use Rattle.cluster.specs.declared.gaps.End.{End}
 use Rattle.table.specs.Around.{Open, open-guards, around-barred, alone-sound, alone-locked, alone-entries}

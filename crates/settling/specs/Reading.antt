@@ -29,13 +29,13 @@ use Rattle.theory.specs.Gaps.{TakenFrom, leftGap-is, gap-only}
 use Rattle.theory.specs.Gaps as gaps
 use Rattle.theory.specs.Places.{void-free, all-at, occupied-at}
 use Rattle.theory.specs.Cut.{between-at}
-use Rattle.cluster.specs.declared.read.Read.{Read}
+use Rattle.reading.specs.declared.read.Read.{Read}
 use Rattle.cluster.specs.declared.gaps.End.{End}
 use Rattle.cluster.specs.Scan.{words-count}
-use Rattle.cluster.specs.Read.{readOf}
+use Rattle.reading.specs.Read.{readOf}
 use Rattle.cluster.specs.Homes.{Housed, sound-housed}
 use Rattle.cluster.specs.Ends.{leftEnd}
-use Rattle.cluster.specs.Beside.{Beside, readFrom, read-from, housed-beside}
+use Rattle.reading.specs.Beside.{Beside, readFrom, read-from, housed-beside}
 use Rattle.busy.specs.Ready.{Ready, right-within, right-small, ends-apart, guard-free}
 
 unfoldable pub afterRead : Shape → Task → Read → Task

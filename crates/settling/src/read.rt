@@ -1,11 +1,11 @@
 // Phase 7: a busy task that holds both locks reads the keys between them. It writes no word.
 use crate::settle::Settling;
 use cluster::gaps::left_end;
-use cluster::read::Read;
-use cluster::read::group_start;
-use cluster::read::read_from;
 use cluster::run::all_occupied;
 use cluster::run::sound_run;
+use reading::read::Read;
+use reading::read::group_start;
+use reading::read::read_from;
 use rules::Shape;
 use rules::Task;
 use rules::Turn;

@@ -27,12 +27,12 @@ use Rattle.theory.specs.Cut.{CutHome, cut-home}
 use Rattle.theory.specs.Places.{occupied-at, occupied-length, void-free}
 use Rattle.cluster.specs.Homes.{Housed, sound-housed}
 use Rattle.cluster.specs.Scan.{left-stop, right-stop}
-use Rattle.cluster.specs.Read.{readOf}
+use Rattle.reading.specs.Read.{readOf}
 use Rattle.cluster.specs.Ends.{leftEnd, rightEnd}
-use Rattle.cluster.specs.Beside.{Beside, readFrom, read-from, housed-beside}
+use Rattle.reading.specs.Beside.{Beside, readFrom, read-from, housed-beside}
 use Rattle.cluster.specs.Check.{checkOf, soundBetween}
 use Rattle.cluster.specs.declared.gaps.End.{End}
-use Rattle.cluster.specs.declared.read.Read.{Read}
+use Rattle.reading.specs.declared.read.Read.{Read}
 use Rattle.cluster.specs.declared.run.Check.{Check}
 
 -- the surroundings are sound and unlocked

@@ -8,7 +8,7 @@ use Rattle.rules.specs.Entry.{Entry, remainderOf, split}
 use Rattle.words.specs.Split.{InShape, split-in-shape}
 use Rattle.theory.specs.Dealt.{entry-path}
 use Rattle.theory.specs.Gaps.{HomePlace}
-use Rattle.cluster.specs.Read.{entry}
+use Rattle.reading.specs.Read.{entry}
 
 module _ (sh : Shape) (key home x : ℕ) (placed : home ≡ split sh key .home) (rest : x ≡ remainderOf sh key) where
   pub key-entry : entry home x ≡ split sh key

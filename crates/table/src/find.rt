@@ -3,9 +3,9 @@ use cluster::gaps::End;
 use cluster::gaps::left_end;
 use cluster::gaps::right_end;
 use cluster::guards::guards_void;
-use cluster::read::group_start;
-use cluster::read::read_from;
 use cluster::run::check_run;
+use reading::read::group_start;
+use reading::read::read_from;
 use rules::FindAnswer;
 use rules::Refusal;
 use rules::Shape;
@@ -33,8 +33,8 @@ ghost use Rattle.rules.specs.Answer.{says, findSays};
 ghost use Rattle.rules.specs.Find.{findIn, find as spec-find};
 ghost use Rattle.words.specs.Range.{InRange};
 ghost use Rattle.words.specs.Split.{InShape};
-ghost use Rattle.cluster.specs.Read.{entry};
-ghost use Rattle.cluster.specs.Beside.{Beside, readFrom};
+ghost use Rattle.reading.specs.Read.{entry};
+ghost use Rattle.reading.specs.Beside.{Beside, readFrom};
 ghost use Rattle.table.specs.Finding.{aloneSays};
 
 // At an empty home, by its word.

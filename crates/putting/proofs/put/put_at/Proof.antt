@@ -11,7 +11,7 @@ use Rattle.rules.specs.Table.{at}
 use Rattle.words.specs.Range.{remainders-high}
 use Rattle.words.specs.Layout.{words-length}
 use Rattle.theory.specs.Dealt.{isOccupied}
-use Rattle.cluster.specs.Read.{entry}
+use Rattle.reading.specs.Read.{entry}
 use Rattle.putting.specs.Putting.{put-barred, put-empty}
 use Rattle.putting.proofs.put.put_at.Statement.{statement}
 use Rattle.putting.proofs.put.put_at.Tie as tie

@@ -7,9 +7,9 @@ use Rattle.rules.specs.Bytes.{wordsOf}
 use Rattle.rules.specs.Shape.{places}
 use Rattle.rules.specs.Table.{clusterEntries}
 use Rattle.words.specs.Layout.{words-length}
-use Rattle.cluster.specs.Beside.{begins, Beside}
-use Rattle.cluster.specs.Read.{entry, readOf}
-use Rattle.cluster.specs.declared.read.Read.{Read}
+use Rattle.reading.specs.Beside.{begins, Beside}
+use Rattle.reading.specs.Read.{entry, readOf}
+use Rattle.reading.specs.declared.read.Read.{Read}
 use Rattle.table.specs.Around.{Inside, cluster-inside, read-beside, beside-cluster}
 use Rattle.table.specs.Key.{home-place}
 use Rattle.putting.specs.Putting.{put-inside, ready}

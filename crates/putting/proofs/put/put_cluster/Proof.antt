@@ -5,7 +5,7 @@ use borrow.Author.Needs.{needs}
 use denote.Ref.{now}
 use Rattle.rules.specs.Shape.{places}
 use Rattle.words.specs.Layout.{words-length}
-use Rattle.cluster.specs.Read.{entry}
+use Rattle.reading.specs.Read.{entry}
 use Rattle.table.specs.Around.{Crowded, home-inside, left-open, table-small, gap-inside, ends-apart, end-inside}
 use Rattle.table.specs.Around.{virgins-counted, changes-counted, told-sound, told-locked, told-open}
 use Rattle.table.specs.Key.{home-place}

@@ -10,7 +10,7 @@ use Rattle.rules.specs.Shape.{places}
 use Rattle.rules.specs.Table.{at}
 use Rattle.words.specs.Layout.{words-length}
 use Rattle.theory.specs.Dealt.{isOccupied}
-use Rattle.cluster.specs.Read.{entry}
+use Rattle.reading.specs.Read.{entry}
 use Rattle.table.specs.Key.{home-place}
 use Rattle.table.specs.Finding.{aloneSays, found-barred, found-alone}
 use Rattle.table.proofs.find.find_at.Statement.{statement}

@@ -2,8 +2,8 @@
 -- Assumes nothing.
 use mathlib.Core.Path.{sym, _∙_, ap}
 use borrow.Author.Needs.{needs}
-use Rattle.cluster.specs.declared.read.Read.{Read}
-use Rattle.cluster.specs.Beside.{begins}
+use Rattle.reading.specs.declared.read.Read.{Read}
+use Rattle.reading.specs.Beside.{begins}
 use Rattle.table.proofs.find.find_beside.Statement.{statement}
 use Rattle.table.proofs.find.find_beside.Tie as tie
 

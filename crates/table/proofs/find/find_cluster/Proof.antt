@@ -5,8 +5,8 @@ use denote.Ref.{now}
 use Rattle.rules.specs.Lists.{bitOf}
 use Rattle.rules.specs.Bytes.{wordsOf}
 use Rattle.rules.specs.Answer.{says}
-use Rattle.cluster.specs.Read.{entry, readOf}
-use Rattle.cluster.specs.declared.read.Read.{Read}
+use Rattle.reading.specs.Read.{entry, readOf}
+use Rattle.reading.specs.declared.read.Read.{Read}
 use Rattle.table.specs.Around.{Crowded, home-inside, left-open, table-small, gap-inside, ends-apart, end-inside}
 use Rattle.table.specs.Around.{virgins-counted, changes-counted, told-sound, told-locked, told-open}
 use Rattle.table.specs.Around.{crowded-inside, read-beside, beside-cluster}

@@ -7,8 +7,8 @@ use mathlib.Core.Path.{sym, _∙_}
 use Rattle.rules.specs.Entry.{split}
 use Rattle.rules.specs.Record.{homePlace}
 use Rattle.rules.specs.Phase.{read}
-use Rattle.cluster.specs.Read.{readOf}
-use Rattle.cluster.specs.Beside.{begins}
+use Rattle.reading.specs.Read.{readOf}
+use Rattle.reading.specs.Beside.{begins}
 use Rattle.settling.specs.Reading.{after-entries, goal-small, home-taken, left-beside, left-read}
 use Rattle.busy.specs.Ready.{home-inside, guard-free}
 use Rattle.settling.proofs.settle.Settling.read.Statement.{statement}

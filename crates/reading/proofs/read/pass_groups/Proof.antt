@@ -7,9 +7,9 @@ use native.Mathlib.Omega.{arith}
 use denote.Ref.{now}
 use Rattle.rules.specs.Lists.{bitOf, count}
 use Rattle.theory.specs.Dealt.{isChange}
-use Rattle.cluster.specs.Group.{passed, placesOf, wordsFrom, group-there, word-past, fewer-groups, passed-all}
-use Rattle.cluster.proofs.read.pass_groups.Statement.{statement}
-use Rattle.cluster.proofs.read.pass_groups.Tie as tie
+use Rattle.reading.specs.Group.{passed, placesOf, wordsFrom, group-there, word-past, fewer-groups, passed-all}
+use Rattle.reading.proofs.read.pass_groups.Statement.{statement}
+use Rattle.reading.proofs.read.pass_groups.Tie as tie
 
 abbrev Inv-loop : tie.InvT-loop
 Inv-loop table k left₀ i₀ left i =

@@ -1,8 +1,8 @@
 -- `read_of` meets its contract: the mark is that of what was seen.
 -- Assumes nothing.
 use borrow.Author.Needs.{needs}
-use Rattle.cluster.proofs.read.read_of.Statement.{statement}
-use Rattle.cluster.proofs.read.read_of.Tie as tie
+use Rattle.reading.proofs.read.read_of.Statement.{statement}
+use Rattle.reading.proofs.read.read_of.Tie as tie
 
 mark-of-requires : tie.Need-mark-of-requires
 mark-of-requires c κs = search needs

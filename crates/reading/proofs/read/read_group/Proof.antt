@@ -14,11 +14,11 @@ use Rattle.rules.specs.Word.{wordOf}
 use Rattle.rules.specs.Bytes.{wordsOf}
 use Rattle.rules.specs.Table.{at}
 use Rattle.theory.specs.Dealt.{isChange}
-use Rattle.cluster.specs.Read.{entry, look-counts}
-use Rattle.cluster.specs.Group.{placesOf, wordsFrom, groupRead, ends-there, ends-later, group-goes, group-ends}
-use Rattle.cluster.specs.declared.read.Seen.{Seen}
-use Rattle.cluster.proofs.read.read_group.Statement.{statement}
-use Rattle.cluster.proofs.read.read_group.Tie as tie
+use Rattle.reading.specs.Read.{entry, look-counts}
+use Rattle.reading.specs.Group.{placesOf, wordsFrom, groupRead, ends-there, ends-later, group-goes, group-ends}
+use Rattle.reading.specs.declared.read.Seen.{Seen}
+use Rattle.reading.proofs.read.read_group.Statement.{statement}
+use Rattle.reading.proofs.read.read_group.Tie as tie
 
 abbrev Inv-loop : tie.InvT-loop
 Inv-loop table x before seen₀ i₀ w₀ seen i w =

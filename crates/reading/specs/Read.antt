@@ -17,9 +17,9 @@ use Rattle.rules.specs.Table.{deal, entriesBetween}
 use Rattle.rules.specs.Lay.{holds}
 use Rattle.rules.specs.Phase.{smaller, markOf}
 use Rattle.words.specs.Number.{bit-small}
 use Rattle.cluster.specs.Homes.{homesFrom}
-use Rattle.cluster.specs.declared.read.Read.{Read}
-use Rattle.cluster.specs.declared.read.Seen.{Seen}
+use Rattle.reading.specs.declared.read.Read.{Read}
+use Rattle.reading.specs.declared.read.Seen.{Seen}
 
 unfoldable pub readOf : Entry → List Entry → Read
 readOf e es = record { held = holds e es; smaller = smaller e es; mark = markOf e es }

@@ -17,12 +17,12 @@ use Rattle.rules.specs.Bytes.{wordsOf}
 use Rattle.rules.specs.Entry.{Entry}
 use Rattle.rules.specs.Table.{at, virginPlaces, due, deal}
 use Rattle.theory.specs.Dealt.{isChange, ends-counted}
 use Rattle.cluster.specs.Run.{run-step, run-end}
 use Rattle.cluster.specs.Homes.{Owed, owed-next}
-use Rattle.cluster.specs.Read.{entry, look, look-before, look-beyond, after}
-use Rattle.cluster.specs.Read.{after-step, after-end}
-use Rattle.cluster.specs.declared.read.Read.{Read}
-use Rattle.cluster.specs.declared.read.Seen.{Seen}
+use Rattle.reading.specs.Read.{entry, look, look-before, look-beyond, after}
+use Rattle.reading.specs.Read.{after-step, after-end}
+use Rattle.reading.specs.declared.read.Read.{Read}
+use Rattle.reading.specs.declared.read.Seen.{Seen}
 
 -- how many words the first k groups have
 abbrev pastOne : Bool → ℕ → (ℕ → ℕ) → ℕ

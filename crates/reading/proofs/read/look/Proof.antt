@@ -4,9 +4,9 @@ use Prim.Native.Nat.{ℕ}
 use borrow.Author.Needs.{needs}
 use mathlib.Core.Path.{sym}
 use native.Mathlib.Omega.{arith}
-use Rattle.cluster.specs.Read.{look-below, look-above, look-equal}
-use Rattle.cluster.proofs.read.look.Statement.{statement}
-use Rattle.cluster.proofs.read.look.Tie as tie
+use Rattle.reading.specs.Read.{look-below, look-above, look-equal}
+use Rattle.reading.proofs.read.look.Statement.{statement}
+use Rattle.reading.proofs.read.look.Tie as tie
 
 add-t6 : tie.Need-add-t6
 add-t6 c = search needs

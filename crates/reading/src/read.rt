@@ -1,6 +1,6 @@
 // The keys of a home's cluster held against one key: is it there, how many are smaller, and the mark that it would get
 // (01, Tasks and their steps, phase 7). Find, put and the read step use it.
-use crate::gaps::End;
+use cluster::gaps::End;
 use words::bit::bit_of;
 use words::bytes::word_at;
 use words::place::Place;
@@ -15,10 +15,10 @@ ghost use lib.Seq.{slice};
 ghost use Rattle.rules.specs.Lists.{count};
 ghost use Rattle.rules.specs.Bytes.{wordsOf};
 ghost use Rattle.theory.specs.Dealt.{isChange};
-ghost use Rattle.cluster.specs.Read as spec;
-ghost use Rattle.cluster.specs.Read.{entry, unseen};
-ghost use Rattle.cluster.specs.Group.{wordsFrom, passed, more, readSeen, groupRead};
-ghost use Rattle.cluster.specs.Beside.{allBut, Beside, groupStart, Begins, readFrom};
+ghost use Rattle.reading.specs.Read as spec;
+ghost use Rattle.reading.specs.Read.{entry, unseen};
+ghost use Rattle.reading.specs.Group.{wordsFrom, passed, more, readSeen, groupRead};
+ghost use Rattle.reading.specs.Beside.{allBut, Beside, groupStart, Begins, readFrom};
 
 // Is the key there, how many keys are smaller, and the mark: 2 if its group is new, 1 if it is larger than all of its
 // group, else 0.

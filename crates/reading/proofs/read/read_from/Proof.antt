@@ -4,10 +4,10 @@ use mathlib.Core.Path.{refl, sym, _∙_, ap}
 use borrow.Author.Needs.{needs}
 use native.Mathlib.Omega.{arith}
 use Rattle.rules.specs.Word.{Word}
-use Rattle.cluster.specs.Read.{entry}
-use Rattle.cluster.specs.Beside.{read-own, read-new}
-use Rattle.cluster.proofs.read.read_from.Statement.{statement}
-use Rattle.cluster.proofs.read.read_from.Tie as tie
+use Rattle.reading.specs.Read.{entry}
+use Rattle.reading.specs.Beside.{read-own, read-new}
+use Rattle.reading.proofs.read.read_from.Statement.{statement}
+use Rattle.reading.proofs.read.read_from.Tie as tie
 
 add-before : tie.Need-add-before
 add-before c = search needs

@@ -17,15 +17,15 @@ use Rattle.rules.specs.Entry.{Entry}
 use Rattle.rules.specs.Table.{at, between, virginPlaces, deal, entriesBetween}
 use Rattle.theory.specs.Dealt.{isChange, isVirgin}
 use Rattle.theory.specs.RunLaws.{virgin-count}
 use Rattle.cluster.specs.Scan.{words-count}
 use Rattle.cluster.specs.Run.{run-step, run-end}
 use Rattle.cluster.specs.Homes.{homesFrom, home-passed, home-met, Housed, Owed, housed-owed}
-use Rattle.cluster.specs.Read.{readOf, after, unseen, read-whole}
-use Rattle.cluster.specs.Group.{placesOf, wordsFrom, passed, more, readSeen, groupRead, Below, Above, Passed}
-use Rattle.cluster.specs.Group.{virgins-below, virgins-above, virgins-append, pass-groups, pass-later, read-group}
-use Rattle.cluster.specs.Group.{split-run, passed-front, passed-beyond, passed-left, group-front, group-there}
-use Rattle.cluster.specs.declared.read.Read.{Read}
+use Rattle.reading.specs.Read.{readOf, after, unseen, read-whole}
+use Rattle.reading.specs.Group.{placesOf, wordsFrom, passed, more, readSeen, groupRead, Below, Above, Passed}
+use Rattle.reading.specs.Group.{virgins-below, virgins-above, virgins-append, pass-groups, pass-later, read-group}
+use Rattle.reading.specs.Group.{split-run, passed-front, passed-beyond, passed-left, group-front, group-there}
+use Rattle.reading.specs.declared.read.Read.{Read}
 use Rattle.cluster.specs.declared.gaps.End.{End}
 
 -- how many words the groups of a run have, all but the last k
 abbrev pub allBut : ℕ → List Word → ℕ

@@ -2,9 +2,9 @@
 -- Assumes nothing.
 use mathlib.Core.Path.{_∙_}
 use borrow.Author.Needs.{needs}
-use Rattle.cluster.specs.Beside.{right-few, start-right, left-few, start-left, start-is}
-use Rattle.cluster.proofs.read.group_start.Statement.{statement}
-use Rattle.cluster.proofs.read.group_start.Tie as tie
+use Rattle.reading.specs.Beside.{right-few, start-right, left-few, start-left, start-is}
+use Rattle.reading.proofs.read.group_start.Statement.{statement}
+use Rattle.reading.proofs.read.group_start.Tie as tie
 
 sub-pass-groups : tie.Need-sub-pass-groups
 sub-pass-groups c = search needs

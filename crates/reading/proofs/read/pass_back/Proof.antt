@@ -9,9 +9,9 @@ use lib.Seq.{slice}
 use Rattle.rules.specs.Lists.{bitOf, count}
 use Rattle.rules.specs.Bytes.{wordsOf}
 use Rattle.theory.specs.Dealt.{isChange}
-use Rattle.cluster.specs.Beside.{allBut, back-on, back-stop, back-end}
-use Rattle.cluster.proofs.read.pass_back.Statement.{statement}
-use Rattle.cluster.proofs.read.pass_back.Tie as tie
+use Rattle.reading.specs.Beside.{allBut, back-on, back-stop, back-end}
+use Rattle.reading.proofs.read.pass_back.Statement.{statement}
+use Rattle.reading.proofs.read.pass_back.Tie as tie
 
 abbrev Inv-loop : tie.InvT-loop
 Inv-loop table k end left₀ i₀ left i =
