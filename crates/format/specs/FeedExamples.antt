@@ -19,10 +19,10 @@ use Rattle.format.specs.Feed.{Feeding, feeds, refused, holds, feedGood, 
 use Rattle.format.specs.Feed.{Finishing, finishes, refusedToo, lastLine, finishGood, finish}
 use Rattle.format.specs.Examples.{bytes}
 
--- a run at a stage, among frames with shape 1, 1 and one task, that holds n bytes of a line
+-- a run at a stage, among frames with shape 1, 2 and three tasks, that holds n bytes of a line
 abbrev runAt : Stage → ℕ → Run
 runAt AtFirst n = record { stage = AtFirst; m = 0; r = 0; tasks = 0; held = n }
-runAt Among n = record { stage = Among; m = 1; r = 1; tasks = 1; held = n }
+runAt Among n = record { stage = Among; m = 1; r = 2; tasks = 3; held = n }
 runAt Ended n = record { stage = Ended; m = 0; r = 0; tasks = 0; held = n }
 
 -- buffers that are long enough, with a line begun and a table of zeros
@@ -66,20 +66,20 @@ fed stage begun piece at next point held prints =
 
 abbrev pub feedRows : List FeedRow
 feedRows =
-    -- the first line in two pieces; a line feed is passed
-    fed AtFirst "" "0101" 0 AtFirst 4 "0101" ""
-    ∷ fed AtFirst "0101" "01\n0000" 0 Among 3 "" ""
+    -- the first line in two pieces: what is held stands before what comes, and the line feed is passed
+    fed AtFirst "" "0102" 0 AtFirst 4 "0102" ""
+    ∷ fed AtFirst "0102" "03\n0000" 0 Among 3 "" ""
     -- one call takes one line, and the next goes on at the point reached
-    ∷ fed AtFirst "" "010101\n\n0000" 0 Among 7 "" ""
-    ∷ fed Among "" "010101\n000\n0000" 7 Among 11 "" "EE\n"
-    ∷ fed Among "" "010101\n000\n0000" 11 Among 15 "0000" ""
-    -- the held bytes stand before the piece's: 10 digits, and then one that is none
-    ∷ fed Among "00000" "00000\n" 0 Among 6 "" "EE\n"
-    ∷ fed AtFirst "01010G" "\n" 0 Ended 1 "" "EE\n"
+    ∷ fed AtFirst "" "010203\n000\n0001" 0 Among 7 "" ""
+    ∷ fed Among "" "010203\n000\n0001" 7 Among 11 "" "EE\n"
+    ∷ fed Among "" "010203\n000\n0001" 11 Among 15 "0001" ""
+    ∷ fed Among "0001" "23" 0 Among 2 "000123" ""
+    -- a line feed alone ends what is held: a bad first line
+    ∷ fed AtFirst "01020G" "\n" 0 Ended 1 "" "EE\n"
     -- an ended run prints nothing more
-    ∷ fed Ended "" "010101\n" 0 Ended 7 "" ""
+    ∷ fed Ended "" "010203\n" 0 Ended 7 "" ""
     -- a piece whose end is reached already
-    ∷ fed Among "000" "010101\n" 7 Among 7 "000" ""
+    ∷ fed Among "000" "010203\n" 7 Among 7 "000" ""
     ∷ []
 
 pub feeds-hold :
@@ -112,7 +112,7 @@ abbrev pub endRows : List EndRow
 endRows =
     -- a missing first line; a first line that lacks its line feed; a bad one
     ends AtFirst "" "EE\n"
-    ∷ ends AtFirst "010101" "0000000000000000\n"
+    ∷ ends AtFirst "010203" "0000000000000000\n"
     ∷ ends AtFirst "0101" "EE\n"
     -- a last line that lacks its line feed is a line
     ∷ ends Among "" "0000000000000000\n"
