@@ -28,7 +28,7 @@ use Rattle.format.specs.Rounds.{start, turn, turns, round, allAnswered, 
 use Rattle.format.specs.Frame.{dawn, used, firstLine, playedLine, frameLine, lineIn, atEnd, outputFrom, output}
 
 -- a text's bytes
-abbrev bytes : String → List ℕ
+abbrev pub bytes : String → List ℕ
 bytes string.[] = []
 bytes (string._∷_ c cs) = code c ∷ bytes cs
 

@@ -6,3 +6,4 @@ pub mod Frame
 pub mod Call
 pub mod Feed
 pub mod Examples
+pub mod FeedExamples

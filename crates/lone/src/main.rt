@@ -61,22 +61,7 @@ fn show_refusal(n: Refusal) {
     print::end_line();
 }
 
-// One step, shown; a refused step leaves the record as it was.
-fn next(n: u8, table: &mut [u8], t: Task) -> Task {
-    let turn = step(3, 4, table, t);
-    match turn {
-        Turn::Next(u) => {
-            show_step(n, u, table);
-            return u;
-        }
-        Turn::Refused(r) => {
-            show_refusal(r);
-            return t;
-        }
-    }
-}
-
-// At most 20 steps, until the task is done.
+// At most 20 steps, each shown, until the task is done. A refused step is the last thing shown.
 fn run(table: &mut [u8], first: Task) {
     let mut t = first;
     let mut n: u8 = 0;
@@ -86,7 +71,17 @@ fn run(table: &mut [u8], first: Task) {
             return;
         }
         n += 1;
-        t = next(n, table, t);
+        let turn = step(3, 4, table, t);
+        match turn {
+            Turn::Next(u) => {
+                show_step(n, u, table);
+                t = u;
+            }
+            Turn::Refused(r) => {
+                show_refusal(r);
+                return;
+            }
+        }
     }
 }
 

@@ -28,8 +28,14 @@ returns c = search needs
 add-n : tie.Need-add-n Inv-loop μ-loop
 add-n c = search needs
 
-next-requires : tie.Need-next-requires Inv-loop μ-loop
-next-requires c κs = search needs
+step-requires : tie.Need-step-requires Inv-loop μ-loop
+step-requires c κs = search needs
+
+enum-known-turn : tie.Need-enum-known-turn Inv-loop μ-loop
+enum-known-turn c = search needs
+
+show-step-requires : tie.Need-show-step-requires Inv-loop μ-loop
+show-step-requires c κs = search needs
 
 loop-less : tie.Need-loop-less Inv-loop μ-loop
 loop-less c = search needs
@@ -37,11 +43,23 @@ loop-less c = search needs
 loop-again : tie.Need-loop-again Inv-loop μ-loop
 loop-again c = search needs
 
+enum-known-turn-2 : tie.Need-enum-known-turn-2 Inv-loop μ-loop
+enum-known-turn-2 c = search needs
+
+show-refusal-requires : tie.Need-show-refusal-requires Inv-loop μ-loop
+show-refusal-requires c κs = search needs
+
 same-length-2 : tie.Need-same-length-2 Inv-loop μ-loop
 same-length-2 c = search needs
 
 returns-2 : tie.Need-returns-2 Inv-loop μ-loop
 returns-2 c = search needs
+
+same-length-3 : tie.Need-same-length-3 Inv-loop μ-loop
+same-length-3 c = search needs
+
+returns-3 : tie.Need-returns-3 Inv-loop μ-loop
+returns-3 c = search needs
 
 pub run-spec : {M : Type 1} → statement M
 run-spec =
@@ -54,8 +72,14 @@ run-spec =
     same-length
     returns
     add-n
-    next-requires
+    step-requires
+    enum-known-turn
+    show-step-requires
     loop-less
     loop-again
+    enum-known-turn-2
+    show-refusal-requires
     same-length-2
-    returns-2)
+    returns-2
+    same-length-3
+    returns-3)
