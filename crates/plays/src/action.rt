@@ -1,5 +1,5 @@
 // One action of a schedule: a step, a give or a record stored as it is, by the length of its line.
-// Steps and gives go through the calls over lent records.
+// Steps and gives go through the calls over lent records, by the first line's numbers or by their own.
 use crate::record::blank;
 use crate::record::put_record;
 use crate::record::record_in;
@@ -15,7 +15,7 @@ use rules::Refusal;
 use rules::Task;
 ghost use mathlib.Core.Path.{_≡_};
 ghost use mathlib.Core.Bool.{true};
-ghost use Prim.Native.Nat.{_≤_};
+ghost use Prim.Native.Nat.{_+_, _≤_};
 ghost use lib.ListN.{length};
 ghost use Rattle.rules.specs.Lists.{all};
 ghost use Rattle.rules.specs.Answer.{numberOfRefusal};
@@ -103,6 +103,61 @@ pub fn put_bad(out: &mut [u8]) -> usize
     3
 }
 
+// The numbers that a call goes by. Those of an action may be out of range: the call refuses them.
+struct Numbers {
+    pub m: u32,
+    pub r: u32,
+    pub count: usize,
+}
+
+fn firsts(f: First) -> Numbers {
+    Numbers {
+        m: f.m,
+        r: f.r,
+        count: f.count,
+    }
+}
+
+fn own(line: &[u8], at: usize) -> Numbers
+    requires { ⌜ at + 6 ≤ length (now line) ⌝ ∗ ⌜ all isDigit (now line) ≡ true ⌝ }
+{
+    Numbers {
+        m: two(line, at) as u32,
+        r: two(line, at + 2) as u32,
+        count: two(line, at + 4) as usize,
+    }
+}
+
+// A line's step. Records are shown by the first line's count, whatever the call's own.
+fn step_by(
+    n: Numbers,
+    shown: usize,
+    tasks: [Task; 16],
+    line: &[u8],
+    table: &mut [u8],
+    out: &mut [u8],
+) -> Acted
+    requires { ⌜ 41 ≤ length (now out) ⌝ ∗ ⌜ 2 ≤ length (now line) ⌝ ∗ ⌜ all isDigit (now line) ≡ true ⌝ }
+    ensures { λ a. ⌜ a .wrote ≤ 41 ⌝ }
+{
+    let i = two(line, 0) as usize;
+    tell(step_all(n.m, n.r, table, tasks, n.count, i), shown, i, out)
+}
+
+// A line's give.
+fn give_by(n: Numbers, shown: usize, tasks: [Task; 16], line: &[u8], out: &mut [u8]) -> Acted
+    requires { ⌜ 41 ≤ length (now out) ⌝ ∗ ⌜ 10 ≤ length (now line) ⌝ ∗ ⌜ all isDigit (now line) ≡ true ⌝ }
+    ensures { λ a. ⌜ a .wrote ≤ 41 ⌝ }
+{
+    let i = two(line, 0) as usize;
+    tell(
+        give_all(n.m, n.r, number(line, 2, 8), tasks, n.count, i),
+        shown,
+        i,
+        out,
+    )
+}
+
 // A line of digits does what its length says. A malformed line is passed over.
 fn act(f: First, tasks: [Task; 16], line: &[u8], table: &mut [u8], out: &mut [u8]) -> Acted
     requires { ⌜ 41 ≤ length (now out) ⌝ ∗ ⌜ all isDigit (now line) ≡ true ⌝ }
@@ -111,19 +166,10 @@ fn act(f: First, tasks: [Task; 16], line: &[u8], table: &mut [u8], out: &mut [u8
     let count = f.count;
     let length = line.len();
     match length {
-        2 => {
-            let i = two(line, 0) as usize;
-            return tell(step_all(f.m, f.r, table, tasks, count, i), count, i, out);
-        }
-        10 => {
-            let i = two(line, 0) as usize;
-            return tell(
-                give_all(f.m, f.r, number(line, 2, 8), tasks, count, i),
-                count,
-                i,
-                out,
-            );
-        }
+        2 => return step_by(firsts(f), count, tasks, line, table, out),
+        8 => return step_by(own(line, 2), count, tasks, line, table, out),
+        10 => return give_by(firsts(f), count, tasks, line, out),
+        16 => return give_by(own(line, 10), count, tasks, line, out),
         40 => {
             let i = two(line, 0) as usize;
             return tell(store(tasks, count, i, record_in(line)), count, i, out);

@@ -41,13 +41,30 @@ impl Crowd {
     }
 }
 
+// A call by wrong numbers, between others: it must be refused and leave all as it was.
+fn bother(random: &mut Random, play: &mut Play) {
+    let (words, records) = (play.words.clone(), play.records);
+    let task = random.place(16);
+    let result = if random.once_in(2) {
+        play.step_by(play.first.wrong(random, Some(&words), task), task)
+    } else {
+        play.give_by(play.first.wrong(random, None, task), task, random.below(play.shape.keys()) as u32)
+    };
+    if result.is_ok() || play.words != words || play.records != records {
+        broken("a call by wrong numbers is not refused, or leaves something changed");
+    }
+}
+
 // Ways to choose the next task: any; one for a while; mostly a few; rounds; one task last of all.
 fn unfair(random: &mut Random, play: &mut Play, crowd: &mut Crowd) {
-    let count = play.records.len();
+    let count = play.first.count;
     let way = random.below(5);
     let one = random.place(count);
     for turn in 0..random.within(1, 40 * count as u64) as usize {
         let any = random.place(count);
+        if random.once_in(10) {
+            bother(random, play);
+        }
         match way {
             0 => crowd.turn(play, any),
             1 => (0..random.within(1, 12)).for_each(|_| crowd.turn(play, any)),
@@ -62,7 +79,7 @@ fn unfair(random: &mut Random, play: &mut Play, crowd: &mut Crowd) {
 fn schedule(random: &mut Random, play: &mut Play) -> Result<(), String> {
     let shape = play.shape;
     let start = play.words.clone();
-    let count = play.records.len();
+    let count = play.first.count;
     let keys = random.within(1, 3 * count as u64) as usize;
     let waiting = tables::some_keys(random, shape, keys);
     let mut crowd = Crowd { waiting, holds: vec![None; count], accepted: Vec::new() };

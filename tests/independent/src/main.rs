@@ -10,6 +10,7 @@ mod examples;
 mod frame;
 mod frames;
 mod hex;
+mod numbers;
 mod play;
 mod random;
 mod records_cases;

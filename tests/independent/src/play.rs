@@ -3,40 +3,58 @@
 
 use crate::drive::{broken, Drive};
 use crate::hex;
+use crate::numbers::*;
 use crate::schedule;
 use crate::table::Shape;
-use crate::task::{give, step, Record};
+use crate::task::Record;
 use std::collections::BTreeSet;
 
 pub struct Play {
     pub shape: Shape,
+    pub first: Numbers,
     pub words: Vec<u16>,
-    pub records: Vec<Record>,
+    pub records: Kept,
     input: String,
 }
 
 impl Play {
     pub fn new(shape: Shape, words: Vec<u16>, count: usize) -> Play {
-        let heading = format!("{:02X}{:02X}{count:02X}\n", shape.m, shape.r);
+        let first = Numbers { m: shape.m, r: shape.r, count };
         let start = if words.iter().all(|&word| word == 0) { String::new() } else { hex::words(&words) };
-        Play { shape, words, records: vec![Record::default(); count], input: heading + &start + "\n" }
+        let input = digits(first) + "\n" + &start + "\n";
+        Play { shape, first, words, records: [Record::default(); 16], input }
     }
 
     pub fn step(&mut self, task: usize) -> Result<(), u8> {
         self.input += &format!("{task:02X}\n");
-        step(self.shape.m, self.shape.r, &mut self.words, &mut self.records, task)
+        self.first.step(&mut self.words, &mut self.records, task)
     }
 
     pub fn give(&mut self, task: usize, key: u32) -> Result<(), u8> {
         self.input += &format!("{task:02X}{key:08X}\n");
-        give(self.shape.m, self.shape.r, key, &mut self.records, task)
+        self.first.give(key, &mut self.records, task)
+    }
+
+    pub fn step_by(&mut self, numbers: Numbers, task: usize) -> Result<(), u8> {
+        self.input += &format!("{task:02X}{}\n", digits(numbers));
+        numbers.step(&mut self.words, &mut self.records, task)
+    }
+
+    pub fn give_by(&mut self, numbers: Numbers, task: usize, key: u32) -> Result<(), u8> {
+        self.input += &format!("{task:02X}{key:08X}{}\n", digits(numbers));
+        numbers.give(key, &mut self.records, task)
     }
 
     pub fn store(&mut self, task: usize, record: Record) {
         self.input += &format!("{task:02X}{}\n", schedule::digits(&record));
-        if let Some(place) = self.records.get_mut(task) {
-            *place = record;
+        if task < self.first.count {
+            self.records[task] = record;
         }
+    }
+
+    // The record of a task, of so many.
+    pub fn record(&self, task: usize, count: usize) -> Option<Record> {
+        self.records.get(task).copied().filter(|_| task < count)
     }
 
     // A line that is no action.
@@ -58,11 +76,17 @@ impl Play {
     }
 }
 
+fn digits(numbers: Numbers) -> String {
+    format!("{:02X}{:02X}{:02X}", numbers.m, numbers.r, numbers.count)
+}
+
 // What became of steps: the phase, the refusal, the next phase, and what tells apart the ways of phases 7 and 10.
 #[derive(Default)]
 pub struct Tally {
     steps: BTreeSet<(u8, u8, u8, String)>,
     gives: BTreeSet<u8>,
+    // Calls by wrong numbers: which call, what is wrong, and the refusal.
+    wrong: BTreeSet<(&'static str, &'static str, u8)>,
 }
 
 impl Tally {
@@ -86,8 +110,27 @@ impl Tally {
         self.gives.insert(result.err().unwrap_or(0));
     }
 
-    // Every way through every phase must have been gone, and every refusal given, but for 1: the heading is in range.
+    pub fn wrong(&mut self, call: &'static str, fault: &'static str, result: Result<(), u8>) {
+        self.wrong.insert((call, fault, result.err().unwrap_or(0)));
+    }
+
+    // Every way through every phase must have been gone, and every refusal given.
     pub fn must_have_reached_all(&self) {
+        self.must_have_reached_all_steps();
+        if self.gives != BTreeSet::from([0, 2, 3, 4]) {
+            broken(&format!("gives came to {:?}", self.gives));
+        }
+        let mut all = vec![("step", BAD_RANGE, 1), ("step", BAD_LENGTH, 1), ("give", BAD_RANGE, 1)];
+        for fault in [NO_RECORDS, MANY_RECORDS, NO_TASK] {
+            // a key out of range comes before the records
+            all.extend([("step", fault, 3), ("give", fault, 2), ("give", fault, 3)]);
+        }
+        if self.wrong != all.into_iter().collect() {
+            broken(&format!("calls by wrong numbers came to {:?}", self.wrong));
+        }
+    }
+
+    fn must_have_reached_all_steps(&self) {
         let mut all = vec![(0, 3, 0, "no task".to_string()), (14, 3, 14, String::new())];
         let mut add = |phase: u8, refusal: u8, to: u8| all.push((phase, refusal, to, String::new()));
         for (phase, to) in [(1, 1), (1, 2), (1, 13), (2, 2), (2, 3), (3, 3), (3, 4), (4, 1), (4, 5)] {
@@ -110,9 +153,6 @@ impl Tally {
         if self.steps != all.iter().cloned().collect() {
             let missing: Vec<_> = all.iter().filter(|way| !self.steps.contains(way)).collect();
             broken(&format!("steps not reached: {missing:?}; all reached: {:?}", self.steps));
-        }
-        if self.gives != BTreeSet::from([0, 2, 3, 4]) {
-            broken(&format!("gives came to {:?}", self.gives));
         }
     }
 }

@@ -71,9 +71,11 @@ const JUNK: [&str; 9] = ["", "0", "000", "0G", "000000001", "00 0000001", "00000
 
 // One action. In a gentle run no record is stored that may spoil a cluster, so that tasks still find sound ones.
 fn act(random: &mut Random, play: &mut Play, tally: &mut Tally, gentle: bool) {
-    let count = play.records.len();
+    let count = play.first.count;
     let task = if random.once_in(40) { random.pick(&[count, 16, 255]) } else { random.place(count) };
-    match random.below(20) {
+    match random.below(22) {
+        20 => step_by(random, play, tally, gentle),
+        21 => give_by(random, play, tally),
         0..=2 => {
             let key = tables::any_key(random, play.shape, &play.words);
             tally.give(play.give(task, key));
@@ -101,9 +103,52 @@ fn act(random: &mut Random, play: &mut Play, tally: &mut Tally, gentle: bool) {
 }
 
 fn step(play: &mut Play, tally: &mut Tally, task: usize) {
-    let before = play.records.get(task).copied();
+    let count = play.first.count;
+    let before = play.record(task, count);
     let result = play.step(task);
-    tally.step(before, result, play.records.get(task).copied());
+    tally.step(before, result, play.record(task, count));
+}
+
+// A task for a call by its own numbers, which may be one that the first line has not.
+fn any_task(random: &mut Random, play: &Play) -> usize {
+    match random.below(8) {
+        0..=4 => random.place(play.first.count),
+        5..=6 => random.place(16),
+        _ => random.pick(&[15, 16, 255]),
+    }
+}
+
+// A gentle run keeps to its r: remainders of a greater one would spoil a cluster.
+fn step_by(random: &mut Random, play: &mut Play, tally: &mut Tally, gentle: bool) {
+    let task = any_task(random, play);
+    let mut numbers = play.first.changed(random, task);
+    if gentle && (1..=12).contains(&numbers.r) {
+        numbers.r = play.first.r;
+    }
+    let fault = numbers.fault(Some(&play.words), task);
+    let before = play.record(task, numbers.count);
+    let result = play.step_by(numbers, task);
+    match fault {
+        Some(fault) => tally.wrong("step", fault, result),
+        None => tally.step(before, result, play.record(task, numbers.count)),
+    }
+}
+
+fn give_by(random: &mut Random, play: &mut Play, tally: &mut Tally) {
+    let task = any_task(random, play);
+    let numbers = play.first.changed(random, task);
+    let keys = Shape::new(numbers.m, numbers.r).map_or(0, |shape| shape.keys());
+    let key = match random.below(4) {
+        0 => random.next() as u32,
+        1 => keys.saturating_sub(random.below(2)).min(u32::MAX as u64) as u32,
+        _ => tables::any_key(random, play.shape, &play.words),
+    };
+    let fault = numbers.fault(None, task);
+    let result = play.give_by(numbers, task, key);
+    match fault {
+        Some(fault) => tally.wrong("give", fault, result),
+        None => tally.give(result),
+    }
 }
 
 pub fn random(drive: &mut Drive, program: &str, seed: u64, runs: usize) -> u64 {
@@ -154,6 +199,8 @@ pub fn malformed(drive: &mut Drive, program: &str) {
         "010100\n\n".to_string(),
         "010111\n\n".to_string(),
         format!("010101\n\n00{}\n01{}\n0{}\n", "f".repeat(38), "0".repeat(38), "0".repeat(40)),
+        "010101\n\n00010101\n0001010\n000101010\n0001010g\n0g010101\n0000010101\n".to_string(),
+        "010101\n\n0000000001010101\n000000000101010\n00000000010101010\n000000000101010g\n".to_string(),
     ];
     for input in inputs {
         let expected = crate::schedule::run(input.as_bytes());

@@ -2,8 +2,9 @@
 // It plays any schedule on any table and any records, one action a line.
 
 use crate::hex;
+use crate::numbers::{Kept, Numbers};
 use crate::table::Shape;
-use crate::task::{give, step, Record, BAD_TASK};
+use crate::task::{Record, BAD_TASK};
 
 pub fn run(input: &[u8]) -> String {
     let lines = hex::lines(input);
@@ -12,10 +13,10 @@ pub fn run(input: &[u8]) -> String {
     let (Some((m, r, count)), Some(mut words)) = (heading, start) else {
         return "EE\n".to_string();
     };
-    let mut records = vec![Record::default(); count];
+    let mut kept = [Record::default(); 16];
     let mut output = String::new();
     for line in &lines[2..] {
-        output += &match act(Shape { m, r }, &mut words, &mut records, line) {
+        output += &match act(Numbers { m, r, count }, &mut words, &mut kept, line) {
             Some((refusal, record)) => format!("{refusal:02X}{}\n", digits(&record)),
             None => "EE\n".to_string(),
         };
@@ -34,20 +35,28 @@ fn starting(shape: Shape, line: &[u8]) -> Option<Vec<u16>> {
 }
 
 // One action: its refusal number, 0 for accepted, and the record as it then stands. None for a malformed line.
-fn act(shape: Shape, words: &mut [u16], records: &mut [Record], line: &[u8]) -> Option<(u8, Record)> {
-    if ![2, 10, 40].contains(&line.len()) {
-        return None;
-    }
-    let task = hex::number(&line[..2])? as usize;
+fn act(first: Numbers, words: &mut [u16], kept: &mut Kept, line: &[u8]) -> Option<(u8, Record)> {
+    let task = hex::number(line.get(..2)?)? as usize;
+    let key = |digits: &[u8]| hex::number(digits).map(|number| number as u32);
     let done = match line.len() {
-        2 => step(shape.m, shape.r, words, records, task),
-        10 => give(shape.m, shape.r, hex::number(&line[2..])? as u32, records, task),
-        _ => {
+        2 => first.step(words, kept, task),
+        8 => numbers_of(&line[2..])?.step(words, kept, task),
+        10 => first.give(key(&line[2..])?, kept, task),
+        16 => numbers_of(&line[10..])?.give(key(&line[2..10])?, kept, task),
+        40 => {
             let record = record_of(&line[2..])?;
-            records.get_mut(task).map(|place| *place = record).ok_or(BAD_TASK)
+            kept[..first.count].get_mut(task).map(|place| *place = record).ok_or(BAD_TASK)
         }
+        _ => return None,
     };
-    Some((done.err().unwrap_or(0), records.get(task).copied().unwrap_or_default()))
+    Some((done.err().unwrap_or(0), kept[..first.count].get(task).copied().unwrap_or_default()))
+}
+
+// An action's own numbers, in range or not.
+fn numbers_of(digits: &[u8]) -> Option<Numbers> {
+    let number = hex::number(digits)?;
+    let (m, r, count) = (number >> 16, number >> 8 & 255, number & 255);
+    Some(Numbers { m: m as u32, r: r as u32, count: count as usize })
 }
 
 pub fn record_of(digits: &[u8]) -> Option<Record> {
