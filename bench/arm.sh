@@ -36,23 +36,36 @@ compile_count() {
     link "$out/count" "$out/count.o" "$out/twin-x86-64.o" target/staticlib/libfirmware.a target/staticlib/libhostcalls.a
 }
 
-# The words that run the count program under an emulator that takes plugins. The plainest processor, since a richer
-# one has instructions that repeat themselves, which the emulator counts each time. Fails where there is no such emulator.
+# Whether these words count; counter is then the whole of what runs the count program. The plainest processor, since a
+# richer one has instructions that repeat themselves, which are counted each time.
+counts() { # EMULATOR WORDS...
+    counter=("$1" -cpu qemu64 "${@:2}" "${launcher[@]: -3}" "$out/count")
+    [ "$(instructions none 2>/dev/null)" -gt 0 ]
+}
+
+# An emulator that takes plugins, Debian's, or else one that writes a line for every instruction, as the kit's can: that
+# is slow, so only the smaller shape is counted by it.
 find_counter() {
-    local version
-    command -v qemu-x86_64 >/dev/null || return 1
-    counter=(qemu-x86_64 -cpu qemu64 -plugin "$out/insns.so" "${launcher[@]: -3}" "$out/count")
+    local version emulator one
+    "$out/bench" keys 10 12 0.5 list >"$out/keys"
     for version in 1 2 3 4 5 6; do
-        "${CC:-cc}" -O2 -shared -fPIC -Wall -Wextra "-DPLUGIN_VERSION=$version" bench/insns.c -o "$out/insns.so"
-        "$out/bench" keys 10 12 0.5 list >"$out/keys"
-        [ -n "$(instructions none)" ] && return 0
+        "${CC:-cc}" -O2 -shared -fPIC -Wall -Wextra "-DPLUGIN_VERSION=$version" bench/insns.c -o "$out/insns.so" || break
+        counts qemu-x86_64 -plugin "$out/insns.so" && return 0
+    done
+    shapes=("10 12")
+    for emulator in "$own/toolchain/bin/qemu-x86_64" qemu-x86_64; do
+        for one in -one-insn-per-tb -singlestep; do
+            counts "$emulator" "$one" -d exec,nochain && return 0
+        done
     done
     return 1
 }
 
+# All that the program runs, its own loader among it: what the plugin says at the end, or the number of lines.
 instructions() { # SET
-    "${counter[@]}" "$1" <"$out/keys" >"$out/calls" 2>"$out/said" || { cat "$out/said" >&2; return 1; }
-    sed -n 's/^instructions: //p' "$out/said"
+    "${counter[@]}" "$1" <"$out/keys" 2>&1 >"$out/calls" |
+        awk '/^instructions: / { n = $2 } /^Trace / { n++ } END { printf "%.0f\n", n }' ||
+        { echo "bench/run: the count program failed on $1" >&2; return 1; }
 }
 
 # As count_by_callgrind. What the program itself takes is that of the calls that do nothing, less their two instructions.

@@ -30,6 +30,13 @@ struct Calls {
 constexpr Calls ours = {wd_find, wd_put, wd_build, wd_list};
 constexpr Calls twin = {tw_find, tw_put, tw_build, tw_list};
 
+// Where the archives do not link, their bitcode is compiled once more, and every table says so.
+#ifdef RECOMPILED
+constexpr const char *our_name = "ours, recompiled";
+#else
+constexpr const char *our_name = "ours";
+#endif
+
 template <const Calls &calls> struct Table {
     Shape shape;
     Bytes bytes;
@@ -247,7 +254,7 @@ void write_keys(Shape s, const char *load, const std::string &operation) {
 int main(int argc, char **argv) {
     std::string mode = argc > 1 ? argv[1] : "";
     Runners sets;
-    sets.push_back(std::make_unique<RunnerOf<Table<ours>>>("ours", true));
+    sets.push_back(std::make_unique<RunnerOf<Table<ours>>>(our_name, true));
     sets.push_back(std::make_unique<RunnerOf<Table<twin>>>("C twin", true));
     if (mode == "agree") return agree(), 0;
     if ((mode == "count" || mode == "keys") && argc == 6) {
