@@ -1,4 +1,4 @@
-// The benchmark: agree, bytes, time, count (see bench/run). The same keys go to every set, from one fixed seed.
+// The benchmark: agree, bytes, time, count, keys (see bench/run). The same keys go to every set, from one fixed seed.
 // Results are markdown tables on standard output.
 #include "../include/woollydusk.h"
 #include "sets.hpp"
@@ -29,6 +29,13 @@ struct Calls {
 };
 constexpr Calls ours = {wd_find, wd_put, wd_build, wd_list};
 constexpr Calls twin = {tw_find, tw_put, tw_build, tw_list};
+
+// Where the archives do not link, their bitcode is compiled once more, and every table says so.
+#ifdef RECOMPILED
+constexpr const char *our_name = "ours, recompiled";
+#else
+constexpr const char *our_name = "ours";
+#endif
 
 template <const Calls &calls> struct Table {
     Shape shape;
@@ -213,17 +220,33 @@ void bytes_all(Runners &sets) {
     std::printf("\n");
 }
 
+// The case of one operation whose instructions are counted; of many finds the first 2000.
+Case counted(Shape s, const char *load) {
+    Case c(s, load);
+    if (c.present.size() > 2000) c.present.resize(2000), c.absent.resize(2000);
+    return c;
+}
+
 // One operation of ours and of the twin, for a program that counts instructions: prints the number of calls.
 void count(Runners &sets, Shape s, const char *load, const std::string &operation) {
-    Case c(s, load);
+    Case c = counted(s, load);
     Keys out(c.n);
-    bool find = operation.compare(0, 4, "find") == 0;
-    if (find && c.present.size() > 2000) c.present.resize(2000), c.absent.resize(2000);
     for (int i = 0; i < 2; i++) {
         if (operation != "put") sets[static_cast<size_t>(i)]->build(s, c.keys);
         if (operation != "build") round_of(*sets[static_cast<size_t>(i)], c, operation, out);
     }
-    std::printf("%zu\n", find ? c.present.size() : c.n);
+    std::printf("%zu\n", operation.compare(0, 4, "find") == 0 ? c.present.size() : c.n);
+}
+
+// The same operation for bench/count.c, which has no C++ library: the shape, the operation's number and the keys.
+void write_keys(Shape s, const char *load, const std::string &operation) {
+    Case c = counted(s, load);
+    const Keys &looked = operation == "find present" ? c.present : c.absent;
+    auto number = std::find(std::begin(operations), std::end(operations), operation) - std::begin(operations);
+    Keys all = {s.m, s.r, static_cast<uint32_t>(number), static_cast<uint32_t>(c.n), static_cast<uint32_t>(looked.size())};
+    all.insert(all.end(), c.keys.begin(), c.keys.end());
+    all.insert(all.end(), looked.begin(), looked.end());
+    if (std::fwrite(all.data(), sizeof all[0], all.size(), stdout) != all.size()) fail("the keys cannot be written");
 }
 
 }  // namespace
@@ -231,16 +254,17 @@ void count(Runners &sets, Shape s, const char *load, const std::string &operatio
 int main(int argc, char **argv) {
     std::string mode = argc > 1 ? argv[1] : "";
     Runners sets;
-    sets.push_back(std::make_unique<RunnerOf<Table<ours>>>("ours", true));
+    sets.push_back(std::make_unique<RunnerOf<Table<ours>>>(our_name, true));
     sets.push_back(std::make_unique<RunnerOf<Table<twin>>>("C twin", true));
     if (mode == "agree") return agree(), 0;
-    if (mode == "count" && argc == 6) {
+    if ((mode == "count" || mode == "keys") && argc == 6) {
         Shape s = {static_cast<uint32_t>(std::atoi(argv[2])), static_cast<uint32_t>(std::atoi(argv[3]))};
+        if (mode == "keys") return write_keys(s, argv[4], argv[5]), 0;
         return count(sets, s, argv[4], argv[5]), 0;
     }
     add_peers(sets);
     if (mode == "time") return time_all(sets), 0;
     if (mode == "bytes") return bytes_all(sets), 0;
-    std::fprintf(stderr, "usage: agree | bytes | time | count M R LOAD OPERATION\n");
+    std::fprintf(stderr, "usage: agree | bytes | time | count M R LOAD OPERATION | keys M R LOAD OPERATION\n");
     return 2;
 }
