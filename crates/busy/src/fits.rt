@@ -5,6 +5,7 @@ use words::key::good_key;
 use words::key::home_place;
 use words::shape::homes;
 use words::shape::right_guard;
+use words::shape::within;
 ghost use mathlib.Core.Path.{_≡_};
 ghost use mathlib.Core.Bool.{_&&_};
 ghost use Prim.Native.Nat.{suc, _<_};
@@ -14,13 +15,6 @@ ghost use Rattle.rules.specs.Record as spec;
 ghost use Rattle.rules.specs.Record.{homePlace, implies, fitsHand, fitsBusy};
 ghost use Rattle.words.specs.Range.{InRange};
 ghost use Rattle.busy.specs.Fit.{fitsWork};
-
-// A number from one to another, both included.
-fn within(low: u32, high: u32, x: u32) -> bool
-    ensures { λ b. ⌜ b ≡ spec.within low high x ⌝ }
-{
-    if low <= x { x <= high } else { false }
-}
 
 fn fits_mark(t: Task) -> bool
     ensures { λ b. ⌜ b ≡ (leb (t .mark) 2 && implies (eqb (t .mark) 1) (leb 2 (t .goal) && ltb (t .left) (t .goal))) ⌝ }

@@ -3,8 +3,7 @@
 use crate::place::Place;
 use rules::Shape;
 ghost use mathlib.Core.Path.{_≡_};
-ghost use mathlib.Core.Bool.{_&&_};
-ghost use lib.Dec.{leb};
+ghost use Rattle.rules.specs.Record as fields;
 ghost use Rattle.rules.specs.Shape as spec;
 ghost use Rattle.rules.specs.Shape.{shapeOf, inRange, goodTable, rightGuard};
 ghost use Rattle.words.specs.Range.{InRange};
@@ -15,8 +14,9 @@ pub fn shape_of(m: u32, r: u32) -> Shape
     Shape { m: m, r: r }
 }
 
-fn within(low: u32, x: u32, high: u32) -> bool
-    ensures { λ b. ⌜ b ≡ (leb low x && leb x high) ⌝ }
+// A number from one to another, both included.
+pub fn within(low: u32, high: u32, x: u32) -> bool
+    ensures { λ b. ⌜ b ≡ fields.within low high x ⌝ }
 {
     if low <= x { x <= high } else { false }
 }
@@ -25,8 +25,8 @@ fn within(low: u32, x: u32, high: u32) -> bool
 pub fn good_shape(m: u32, r: u32) -> bool
     ensures { λ b. ⌜ b ≡ inRange (shapeOf m r) ⌝ }
 {
-    if within(1, m, 20) {
-        within(1, r, 12)
+    if within(1, 20, m) {
+        within(1, 12, r)
     } else {
         false
     }
