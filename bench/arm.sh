@@ -28,7 +28,7 @@ recompile() { # NAME
         -c -x ir "$out/$1.bc" -o "$out/$1.o" 2>>"$out/$1.log" || { tail "$out/$1.log"; return 1; }
 }
 
-# The x86-64 program whose instructions are counted: the archives, and the twin as it is timed.
+# The x86-64 program whose instructions are counted: the archives themselves, and the twin for x86-64.
 compile_count() {
     "$clang" --target=x86_64-unknown-linux-gnu -O3 -fPIC -nostdinc -Wall -Wextra -Werror -c bench/twin.c \
         -o "$out/twin-x86-64.o"
@@ -43,13 +43,14 @@ counts() { # EMULATOR WORDS...
     [ "$(instructions none 2>/dev/null)" -gt 0 ]
 }
 
-# An emulator that takes plugins, Debian's, or else one that writes a line for every instruction, as the kit's can: that
-# is slow, so only the smaller shape is counted by it.
+# An emulator that takes plugins, as Debian's does, or else one that writes a line for each instruction, as the kit's
+# can: that is slow, so only the smaller shape is counted by it.
 find_counter() {
     local version emulator one
     "$out/bench" keys 10 12 0.5 list >"$out/keys"
     for version in 1 2 3 4 5 6; do
-        "${CC:-cc}" -O2 -shared -fPIC -Wall -Wextra "-DPLUGIN_VERSION=$version" bench/insns.c -o "$out/insns.so" || break
+        "${CC:-cc}" -O2 -shared -fPIC -Wall -Wextra "-DPLUGIN_VERSION=$version" -o "$out/insns.so" bench/insns.c ||
+            break
         counts qemu-x86_64 -plugin "$out/insns.so" && return 0
     done
     shapes=("10 12")
@@ -68,7 +69,8 @@ instructions() { # SET
         { echo "bench/run: the count program failed on $1" >&2; return 1; }
 }
 
-# As count_by_callgrind. What the program itself takes is that of the calls that do nothing, less their two instructions.
+# As count_by_callgrind. What the program itself takes is what it takes with calls that do nothing, less their two
+# instructions.
 count_by_emulator() { # M R LOAD OPERATION CALL
     local calls keys ours twin none
     "$out/bench" keys "$1" "$2" "$3" "$4" >"$out/keys"

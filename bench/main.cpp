@@ -243,7 +243,8 @@ void write_keys(Shape s, const char *load, const std::string &operation) {
     Case c = counted(s, load);
     const Keys &looked = operation == "find present" ? c.present : c.absent;
     auto number = std::find(std::begin(operations), std::end(operations), operation) - std::begin(operations);
-    Keys all = {s.m, s.r, static_cast<uint32_t>(number), static_cast<uint32_t>(c.n), static_cast<uint32_t>(looked.size())};
+    Keys all = {s.m, s.r};
+    for (size_t n : {static_cast<size_t>(number), c.n, looked.size()}) all.push_back(static_cast<uint32_t>(n));
     all.insert(all.end(), c.keys.begin(), c.keys.end());
     all.insert(all.end(), looked.begin(), looked.end());
     if (std::fwrite(all.data(), sizeof all[0], all.size(), stdout) != all.size()) fail("the keys cannot be written");
