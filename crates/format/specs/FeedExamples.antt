@@ -49,8 +49,8 @@ pub record FeedRow : Type 0 where
   pub held : List ℕ
   pub prints : List ℕ
 
--- at a stage, with a line begun, a piece is fed from a point on; the stage that follows, the point reached, what is then
--- held, and what is printed
+-- at a stage, with a line begun, a piece is fed from a point on; the stage that follows, the point reached, what is
+-- then held, and what is printed
 abbrev fed : Stage → String → String → ℕ → Stage → ℕ → String → String → FeedRow
 fed stage begun piece at next point held prints =
     record {

@@ -41,7 +41,8 @@ module _ (sh : Shape) (ks : List ℕ) (over i : ℕ) where
 
   pub goods-on :
       i < length ks →
-      (good sh (bitOr over (getD ks i 0)) && all (good sh) (drop (i + 1) ks)) ≡ (good sh over && all (good sh) (drop i ks))
+      (good sh (bitOr over (getD ks i 0)) && all (good sh) (drop (i + 1) ks))
+      ≡ (good sh over && all (good sh) (drop i ks))
   unfolding keys
   goods-on low =
       rw (over-below (sh .m + sh .r) over (getD ks i 0))

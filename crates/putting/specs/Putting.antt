@@ -1,5 +1,5 @@
 -- Put by what is around the home: `put-barred`, `put-empty`, `put-unsound`, `put-locked`, `put-inside`. Where the key
--- goes on to be added beside its cluster: `added-left`, `added-right`, `added-none`, and the bounds of its way, `reach`.
+-- goes on to be added beside its cluster: `added-left`, `added-right`, `added-none`, and its way's bounds, `reach`.
 -- `bytes-left`: what is said of the words that put leaves is said of every lent byte.
 -- Assumes nothing.
 use Prim.Native.Nat.{ℕ, suc, _+_, _-_, _*_, _≤_, _<_}

@@ -1,6 +1,6 @@
 -- A read of a home's cluster from its left end, `Beside`: where its group begins, counted from the home (`start-right`,
--- `start-left`, `begins`), and what is read there, `readFrom`. `read-from`: where the cluster has a home for each of its groups,
--- that is the rule's read of its keys, wherever it ends.
+-- `start-left`, `begins`), and what is read there, `readFrom`. `read-from`: where the cluster has a home for each of
+-- its groups, that is the rule's read of its keys, wherever it ends.
 -- Assumes nothing.
 use Prim.Native.Nat.{ℕ, suc, _+_, _-_, _*_, _≤_, _<_}
 use mathlib.Core.Path.{_≡_, refl, sym, _∙_, ap, ap₂}

@@ -158,7 +158,8 @@ pass-groups e gs (w ∷ ws) s (h ∷ hs) (below-next lt low) o =
   where
     go :
         (b : Bool) → w .change ≡ b → Owed (due b (h ∷ (hs ++ gs))) ws →
-        ((ks : List ℕ) → Below (e .home) ks → Owed (ks ++ gs) ws → Passed e (more 1 s) (passed ws (length ks)) ks gs ws) →
+        ((ks : List ℕ) → Below (e .home) ks → Owed (ks ++ gs) ws →
+        Passed e (more 1 s) (passed ws (length ks)) ks gs ws) →
         Passed e s (pastOne b (suc (length hs)) (λ (j : ℕ). passed ws j)) (h ∷ hs) gs (w ∷ ws)
     go true c next rest =
         pass-word e s _ h hs gs hs w ws lt (ap (λ (t : Bool). due t (h ∷ (hs ++ gs))) c) (rest hs low next)
@@ -344,7 +345,7 @@ pub group-front :
 unfolding groupRead count
 group-front e [] vs s some = absurd (omega arith)
 group-front e (u ∷ us) vs s some =
-    go (u .change) some (λ (h : 1 ≤ count isChange us). group-front e us vs (look e (entry (e .home) (u .remainder)) s) h)
+    go (u .change) some (λ (h : 1 ≤ count isChange us). group-front e us vs next h)
   where
     next : Seen
     next = look e (entry (e .home) (u .remainder)) s

@@ -20,7 +20,8 @@ remainder-of-requires c κs = search needs
 put-clean-at-requires : tie.Need-put-clean-at-requires
 put-clean-at-requires c κs =
     let start = c .before .before .before .before in
-    let in-shape = key-shape _ _ _ _ (c .before .home-place .ensures) (c .remainder-of .ensures) (start .pre .1 .1 .0) in
+    let placed = c .before .home-place .ensures in
+    let in-shape = key-shape _ _ _ _ placed (c .remainder-of .ensures) (start .pre .1 .1 .0) in
     (start .pre .0, (start .pre .1 .0, (in-shape, start .pre .1 .1 .1)))
 
 same-length : tie.Need-same-length

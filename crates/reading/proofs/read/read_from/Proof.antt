@@ -25,8 +25,8 @@ read-group-requires : tie.Need-read-group-requires
 read-group-requires c κs =
     let read = c .before .before in
     let start = read .before .before .before .before in
-    let virgin = sym (c .before .virgin .ensures ∙ ap (λ (w : Word). w .virgin) (read .word-at .ensures)) ∙ c .if1 .taken in
-    (start .pre .ends virgin, omega arith)
+    let bit = c .before .virgin .ensures ∙ ap (λ (w : Word). w .virgin) (read .word-at .ensures) in
+    (start .pre .ends (sym bit ∙ c .if1 .taken), omega arith)
 
 returns : tie.Need-returns
 returns c =
