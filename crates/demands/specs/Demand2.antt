@@ -17,7 +17,7 @@ use Rattle.rules.specs.Answer.{says, refuses, leaves}
 use Rattle.rules.specs.Find.{find}
 use Rattle.rules.specs.Put.{put}
 use Rattle.rules.specs.Build.{build}
-use Rattle.words.specs.Range.{good-table}
+use Rattle.table_words.specs.Range.{good-table}
 use Rattle.theory.specs.Run.{unlock}
 use Rattle.theory.specs.Locks.{sound-unlock, list-unlock}
 use Rattle.theory.specs.Gaps.{AllTaken}

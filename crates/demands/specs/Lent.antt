@@ -13,9 +13,9 @@ use Rattle.rules.specs.Shape.{shapeOf, remainders, places, fitsLength, goodTabl
 use Rattle.rules.specs.Entry.{Entry}
 use Rattle.rules.specs.Table.{at, occupied, entries, sound, locked}
 use Rattle.rules.specs.Lay.{lay}
-use Rattle.words.specs.Range.{InRange, good-table, range-in, remainders-high}
-use Rattle.words.specs.Number.{number-small}
-use Rattle.words.specs.Layout.{words-length, bytes-length, words-of-bytes}
+use Rattle.table_words.specs.Range.{InRange, good-table, range-in, remainders-high}
+use Rattle.table_words.specs.Number.{number-small}
+use Rattle.table_words.specs.Layout.{words-length, bytes-length, words-of-bytes}
 use Rattle.theory.specs.Every as every
 use Rattle.theory.specs.Every.{All}
 use Rattle.theory.specs.Insert.{asc-all}

@@ -20,9 +20,9 @@ use Rattle.rules.specs.Lay.{holds, insert}
 use Rattle.rules.specs.Answer.{says, refuses, leaves}
 use Rattle.rules.specs.Find.{find}
 use Rattle.rules.specs.Put.{addAt, Outcome, writes, putIn, bytesAfter, put}
-use Rattle.words.specs.Range.{InRange, good-table}
-use Rattle.words.specs.Split.{InShape, split-in-shape, join-split, split-join}
-use Rattle.words.specs.Layout.{same-bytes}
+use Rattle.table_words.specs.Range.{InRange, good-table}
+use Rattle.table_words.specs.Split.{InShape, split-in-shape, join-split, split-join}
+use Rattle.table_words.specs.Layout.{same-bytes}
 use Rattle.theory.specs.Every as every
 use Rattle.theory.specs.Every.{All}
 use Rattle.theory.specs.Gaps.{HomePlace, AllTaken, room-full, full-room}

@@ -19,9 +19,9 @@ use Rattle.rules.specs.Lay.{holds, ascend, lay}
 use Rattle.rules.specs.Answer.{Answer, says, refuses, Leaves, leaves}
 use Rattle.rules.specs.Put.{layRun, Outcome, keeps, putIn, wordsAfter, put}
 use Rattle.rules.specs.Build.{zeros, puts, tooMany, buildIn, build}
-use Rattle.words.specs.Range.{InRange, good-table, remainders-high}
-use Rattle.words.specs.Split.{InShape, split-in-shape, split-join, join-below}
-use Rattle.words.specs.Layout.{same-bytes, bytes-are}
+use Rattle.table_words.specs.Range.{InRange, good-table, remainders-high}
+use Rattle.table_words.specs.Split.{InShape, split-in-shape, split-join, join-below}
+use Rattle.table_words.specs.Layout.{same-bytes, bytes-are}
 use Rattle.theory.specs.Run.{none}
 use Rattle.theory.specs.Dealt.{and-left, and-right, and-both, or-left, or-right}
 use Rattle.theory.specs.Every as every

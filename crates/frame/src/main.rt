@@ -1,11 +1,11 @@
 // The frame program (01): reads standard input to its end and writes standard output. What it prints is the crate
 // `frames`'; here are only the reads, the writes and the buffers.
-use format::FeedAnswer;
-use format::FinishAnswer;
-use format::Run;
-use frames::feed::begin;
-use frames::feed::feed;
-use frames::finish::finish;
+use frame_feed::feed::begin;
+use frame_feed::feed::feed;
+use frame_feed::finish::finish;
+use frame_rules::FeedAnswer;
+use frame_rules::FinishAnswer;
+use frame_rules::Run;
 
 // How far the input is: there is more, it has ended, or a read or a write has failed.
 enum Input {

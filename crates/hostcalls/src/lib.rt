@@ -1,13 +1,13 @@
 // Build and list for C programs on a host (01, Answers and their numbers), in the form of the firmware's calls.
 // They require nothing, since nobody checks what C passes; include/woollydusk.h declares them.
-use listing::list::list;
-use packed::pack_done;
-use packed::pack_list;
-use putting::build::build;
+use table_list::list::list;
+use table_packed::pack_done;
+use table_packed::pack_list;
+use table_put::build::build;
 ghost use mathlib.Core.Path.{_≡_};
 ghost use Rattle.rules.specs.Build.{build as spec-build};
 ghost use Rattle.rules.specs.Listing.{listing as spec-list};
-ghost use Rattle.packed.specs.Packed.{gives, packedLeaves};
+ghost use Rattle.table_packed.specs.Packed.{gives, packedLeaves};
 
 #[no_mangle]
 pub extern "C" fn wd_build(m: u32, r: u32, table: &mut [u8], keys: &[u32]) -> u64

@@ -1,9 +1,9 @@
 // The input in pieces, one read each. Lines are cut at their line feeds; a line begun is held until its end is read.
 // What is printed is gathered, and written once a piece or when there is no room for one more line.
-use plays::run::Run;
-use plays::run::ended;
-use plays::run::is_ended;
-use plays::run::line_in;
+use test_schedule::run::Run;
+use test_schedule::run::ended;
+use test_schedule::run::is_ended;
+use test_schedule::run::line_in;
 ghost use mathlib.Core.Path.{_≡_};
 ghost use Prim.Native.Nat.{_≤_};
 ghost use lib.ListN.{length};

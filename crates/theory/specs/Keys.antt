@@ -16,7 +16,7 @@ use Rattle.rules.specs.Word.{Word}
 use Rattle.rules.specs.Entry.{Entry, homeOfPlace, split, join, sameEntry}
 use Rattle.rules.specs.Shape.{homes, remainders, keys, places, rightGuard}
 use Rattle.rules.specs.Lay.{holds}
-use Rattle.words.specs.Split.{InShape, split-join, join-split, join-below}
+use Rattle.table_words.specs.Split.{InShape, split-join, join-split, join-below}
 use Rattle.theory.specs.Run.{code, Asc, none, next}
 use Rattle.theory.specs.Every as every
 use Rattle.theory.specs.Every.{All}

@@ -18,7 +18,7 @@ use Rattle.rules.specs.Table.{clusterEntries}
 use Rattle.rules.specs.Lay.{holds}
 use Rattle.rules.specs.Record.{homePlace}
 use Rattle.rules.specs.Give.{taskAt}
-use Rattle.words.specs.Split.{split-in-shape}
+use Rattle.table_words.specs.Split.{split-in-shape}
 use Rattle.theory.specs.Run.{unlock}
 use Rattle.theory.specs.Dealt.{isOccupied}
 use Rattle.theory.specs.Locks.{between-unlock, sound-run-unlock, virgin-unlock, deal-unlock}

@@ -26,7 +26,7 @@ use Rattle.rules.specs.Record.{homePlace, toPhase, withLeft, withAnswer}
 use Rattle.rules.specs.Give.{taskAt}
 use Rattle.rules.specs.Phase as phase
 use Rattle.rules.specs.Phase.{to, unsound, aloneWord, smaller, markOf, movesOn}
-use Rattle.words.specs.Split.{split-in-shape}
+use Rattle.table_words.specs.Split.{split-in-shape}
 use Rattle.theory.specs.Run.{unlock}
 use Rattle.theory.specs.Dealt.{or-left, or-right}
 use Rattle.theory.specs.Insert.{same-eq, same-refl, holds-insert}

@@ -26,8 +26,8 @@ use Rattle.rules.specs.Answer.{Answer, says, refuses, Leaves, leaves}
 use Rattle.rules.specs.Record.{busy, atRest, fitsBusy, fits}
 use Rattle.rules.specs.Give.{given, noTask, taskAt, goodTask, giveTo, give}
 use Rattle.rules.specs.Step.{Lent, refused, stepOf, lentAfter, step}
-use Rattle.words.specs.Range.{good-table, remainders-high}
-use Rattle.words.specs.Layout.{bytes-length, words-of-bytes, remainders-small}
+use Rattle.table_words.specs.Range.{good-table, remainders-high}
+use Rattle.table_words.specs.Layout.{bytes-length, words-of-bytes, remainders-small}
 use Rattle.theory.specs.Every as every
 use Rattle.theory.specs.Every.{All}
 use Rattle.theory.specs.Insert.{same-eq, holds-insert}

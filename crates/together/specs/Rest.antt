@@ -21,8 +21,8 @@ use Rattle.rules.specs.Lay.{holds, ascend}
 use Rattle.rules.specs.Build.{puts}
 use Rattle.rules.specs.Record.{atRest}
 use Rattle.rules.specs.Give.{taskAt}
-use Rattle.words.specs.Range.{InRange, good-table, remainders-high}
-use Rattle.words.specs.Layout.{bytes-are, same-bytes}
+use Rattle.table_words.specs.Range.{InRange, good-table, remainders-high}
+use Rattle.table_words.specs.Layout.{bytes-are, same-bytes}
 use Rattle.theory.specs.Run.{unlock}
 use Rattle.theory.specs.Every as every
 use Rattle.theory.specs.Every.{All}

@@ -23,7 +23,7 @@ use Rattle.rules.specs.Give.{taskAt}
 use Rattle.rules.specs.Phase as phase
 use Rattle.rules.specs.Phase.{Step, to}
 use Rattle.rules.specs.Step.{ofPhase, steps, orUnsound, stepOf}
-use Rattle.words.specs.Split.{split-in-shape}
+use Rattle.table_words.specs.Split.{split-in-shape}
 use Rattle.theory.specs.Dealt.{word-path, and-left, and-right}
 use Rattle.theory.specs.Gaps as gaps
 use Rattle.theory.specs.Gaps.{Side, other, AllTaken}

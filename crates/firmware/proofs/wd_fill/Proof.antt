@@ -2,7 +2,7 @@
 -- Assumes nothing.
 use mathlib.Core.Path.{_∙_, ap}
 use borrow.Author.Needs.{needs}
-use Rattle.packed.specs.Packed.{packed}
+use Rattle.table_packed.specs.Packed.{packed}
 use Rattle.firmware.proofs.wd_fill.Statement.{statement}
 use Rattle.firmware.proofs.wd_fill.Tie as tie
 

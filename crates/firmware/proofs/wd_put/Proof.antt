@@ -1,7 +1,7 @@
 -- `wd_put` meets its contract: put's answer, packed, and the bytes that put leaves.
 -- Assumes nothing.
 use borrow.Author.Needs.{needs}
-use Rattle.packed.specs.Packed.{packs}
+use Rattle.table_packed.specs.Packed.{packs}
 use Rattle.firmware.proofs.wd_put.Statement.{statement}
 use Rattle.firmware.proofs.wd_put.Tie as tie
 

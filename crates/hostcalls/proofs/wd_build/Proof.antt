@@ -1,7 +1,7 @@
 -- `wd_build` meets its contract: build's answer, packed, and the bytes that build leaves.
 -- Assumes nothing.
 use borrow.Author.Needs.{needs}
-use Rattle.packed.specs.Packed.{packs}
+use Rattle.table_packed.specs.Packed.{packs}
 use Rattle.hostcalls.proofs.wd_build.Statement.{statement}
 use Rattle.hostcalls.proofs.wd_build.Tie as tie
 

@@ -1,7 +1,7 @@
 -- `wd_list` meets its contract: list's answer, packed, and the slots that list leaves.
 -- Assumes nothing.
 use borrow.Author.Needs.{needs}
-use Rattle.packed.specs.Packed.{packs}
+use Rattle.table_packed.specs.Packed.{packs}
 use Rattle.hostcalls.proofs.wd_list.Statement.{statement}
 use Rattle.hostcalls.proofs.wd_list.Tie as tie
 

@@ -1,0 +1,94 @@
+-- The table that is all zero: it is sound and without locks, and lists nothing (it is the build of nothing).
+-- Its used part, of the 32,772 bytes with which a run begins.
+-- Assumes nothing.
+use Prim.Native.Nat.{ℕ, zero, suc, _*_, _≤_}
+use mathlib.Core.Path.{_≡_, refl, sym, ap, _∙_, subst}
+use mathlib.Core.Bool.{true, _&&_}
+use mathlib.Core.List.{List, [], _∷_}
+use native.Mathlib.Omega.{arith}
+use lib.ListN.{length, take, replicate, length-replicate}
+use lib.Dec.{leb}
+use lib.Pow.{pow-mono}
+use borrow.Author.Tests.{eq-eqb, leb-true}
+use Rattle.rules.specs.Lists.{all}
+use Rattle.rules.specs.Shape.{shapeOf, homes, places, goodTable, fitsLength}
+use Rattle.rules.specs.Record.{within}
+use Rattle.rules.specs.Lay.{ascend}
+use Rattle.table_words.specs.Range.{InRange, range-in}
+use Rattle.theory.specs.Dealt.{and-left, and-right, and-both}
+use Rattle.demands.specs.Terms.{PlainTable, InKeys, listOf, distinct, left-by, putAll, Builds}
+use Rattle.demands.specs.Demand2.{build-lists, build-puts}
+use Rattle.frame_rules.specs.Lines.{First, inLimits}
+use Rattle.frame_rules.specs.Frame.{used, usedPart}
+
+-- ---- the numbers of a first line that is in its limits
+pub record InLimits (f : First) : Type 0 where
+  pub range : InRange (shapeOf (f .m) (f .r))
+  pub m-high : f .m ≤ 14
+  pub tasks-high : f .tasks ≤ 16
+
+pub in-limits : (f : First) → inLimits f ≡ true → InLimits f
+unfolding inLimits
+in-limits f h =
+    let shape = and-left (within 1 14 (f .m) && within 1 12 (f .r)) _ h in
+    let some = and-left (within 1 14 (f .m)) _ shape in
+    let rest = and-right (within 1 14 (f .m)) _ shape in
+    let crew = and-right (within 1 14 (f .m) && within 1 12 (f .r)) _ h in
+    let m-high = leb-true (f .m) 14 (and-right (leb 1 (f .m)) _ some) in
+    record {
+      range =
+          record {
+            m-low = leb-true 1 (f .m) (and-left (leb 1 (f .m)) _ some);
+            m-high = omega (arith, m-high);
+            r-low = leb-true 1 (f .r) (and-left (leb 1 (f .r)) _ rest);
+            r-high = leb-true (f .r) 12 (and-right (leb 1 (f .r)) _ rest);
+          };
+      m-high = m-high;
+      tasks-high = leb-true (f .tasks) 16 (and-right (leb 1 (f .tasks)) _ crew);
+    }
+
+-- ---- zeros
+take-replicate : {A : Type 0} (k n : ℕ) (a : A) → k ≤ n → take k (replicate n a) ≡ replicate k a
+take-replicate zero n a le = refl
+take-replicate (suc k) zero a le = absurd (omega arith)
+take-replicate {A} (suc k) (suc n) a le = ap (λ (rest : List A). a ∷ rest) (take-replicate k n a (omega arith))
+
+module _ (m r : ℕ) (range : InRange (shapeOf m r)) where
+  abbrev zeros : List ℕ
+  zeros = replicate (2 * places (shapeOf m r)) 0
+
+  long : length zeros ≡ 2 * places (shapeOf m r)
+  long = length-replicate (2 * places (shapeOf m r)) 0
+
+  good : goodTable (shapeOf m r) (length zeros) ≡ true
+  unfolding goodTable fitsLength
+  good = and-both _ _ (range-in (shapeOf m r) range) (eq-eqb _ _ long)
+
+  few : distinct (shapeOf m r) [] ≤ homes (shapeOf m r)
+  unfolding distinct ascend
+  few = omega arith
+
+  in-keys : InKeys (shapeOf m r) []
+  unfolding all
+  in-keys = refl
+
+  nothing : Builds m r zeros []
+  nothing = build-lists m r zeros good [] in-keys few
+
+  is-zeros : nothing .after ≡ zeros
+  unfolding putAll
+  is-zeros =
+      ap left-by (sym (nothing .answer) ∙ build-puts m r zeros good [] in-keys few)
+      ∙ ap (λ (n : ℕ). replicate n 0) long
+
+  pub zeros-plain : PlainTable m r (replicate (2 * places (shapeOf m r)) 0)
+  zeros-plain = subst (PlainTable m r) is-zeros (nothing .table)
+
+  pub zeros-list : listOf m r (replicate (2 * places (shapeOf m r)) 0) ≡ []
+  unfolding ascend
+  zeros-list = ap (listOf m r) (sym is-zeros) ∙ nothing .list-after
+
+-- ---- the used part of the zeros with which a run begins
+pub used-zeros : (f : First) → InLimits f → usedPart f (replicate 32772 0) ≡ replicate (used f) 0
+unfolding used places homes
+used-zeros f l = take-replicate (used f) 32772 0 (omega (arith, pow-mono {i = f .m} {j = 14} (l .m-high)))

@@ -1,0 +1,106 @@
+// The call for one line (01, The frame program): a line's bytes in; passed over, ended, or the answers.
+use crate::play::play;
+use frame_digits::read::all_digits;
+use frame_rounds::turn::key_at;
+use frame_rules::LineAnswer;
+use rules::Refusal;
+use rules::Shape;
+use table_words::key::good_key;
+use table_words::shape::good_table;
+use table_words::shape::shape_of;
+ghost use mathlib.Core.Path.{_≡_};
+ghost use mathlib.Core.Bool.{true};
+ghost use Prim.Native.Nat.{ℕ, _≤_};
+ghost use lib.Dec.{ltb};
+ghost use Rattle.rules.specs.Lists.{all};
+ghost use Rattle.rules.specs.Shape.{shapeOf, keys as keys-of};
+ghost use Rattle.frame_rules.specs.Digits.{isDigit};
+ghost use Rattle.frame_rules.specs.Lines.{keysOf, goodLine};
+ghost use Rattle.frame_rules.specs.Call.{lineSays, leftAlone};
+ghost use Rattle.frame_rules.specs.Call as spec;
+ghost use Rattle.table_words.specs.Range.{InRange};
+ghost use Rattle.frame_line.specs.Play.{lineKeys};
+
+// Whether every key of a line of digits is in range.
+fn good_keys(sh: Shape, text: &[u8]) -> bool
+    requires { ⌜ InRange sh ⌝ ∗ ⌜ all isDigit (now text) ≡ true ⌝ }
+    ensures { λ b. ⌜ b ≡ all (λ (key : ℕ). ltb key (keys-of sh)) (keysOf (now (text .entry))) ⌝ }
+{
+    let n = text.len() / 8;
+    let mut i = 0;
+    while i < n {
+        if good_key(sh, key_at(text, i)) {
+            i += 1;
+        } else {
+            return false;
+        }
+    }
+    true
+}
+
+// Digits alone, a multiple of eight, at most 512 keys, each in range.
+fn good_line(sh: Shape, text: &[u8]) -> bool
+    requires { ⌜ InRange sh ⌝ }
+    ensures { λ b. ⌜ b ≡ goodLine sh (now (text .entry)) ⌝ }
+{
+    if all_digits(text) {
+        if text.len() % 8 == 0 {
+            if text.len() <= 4096 {
+                return good_keys(sh, text);
+            }
+        }
+    }
+    false
+}
+
+// A good line: 9 where it has more keys than there are slots.
+fn line_keys(
+    m: u32,
+    r: u32,
+    n: usize,
+    table: &mut [u8],
+    text: &[u8],
+    slots: &mut [u8],
+) -> LineAnswer
+    requires { ⌜ n ≤ 16 ⌝ ∗ ⌜ InRange (shapeOf m r) ⌝ ∗ ⌜ goodLine (shapeOf m r) (now text) ≡ true ⌝ }
+    ensures { λ a. ⌜ leftAlone (lineSays a) (now (table .exit)) (now (slots .exit))
+        ≡ lineKeys m r n (now (table .entry)) (keysOf (now (text .entry))) (now (slots .entry)) ⌝ }
+{
+    let count = text.len() / 8;
+    if count <= slots.len() {
+        if play(m, r, n, table, text, &mut slots[0..count]) {
+            return LineAnswer::Answered(count);
+        } else {
+            return LineAnswer::Ended;
+        }
+    }
+    LineAnswer::Refused(Refusal::TooFewSlots)
+}
+
+pub fn line(
+    m: u32,
+    r: u32,
+    tasks: u32,
+    table: &mut [u8],
+    text: &[u8],
+    slots: &mut [u8],
+) -> LineAnswer
+    ensures { λ a. ⌜ leftAlone (lineSays a) (now (table .exit)) (now (slots .exit))
+        ≡ spec.line m r tasks (now (table .entry)) (now (text .entry)) (now (slots .entry)) ⌝ }
+{
+    if good_table(m, r, table.len()) {
+        match tasks {
+            1..=16 => {
+                if good_line(shape_of(m, r), text) {
+                    return line_keys(m, r, tasks as usize, table, text, slots);
+                } else {
+                    return LineAnswer::PassedOver;
+                }
+            }
+            _ => {
+                return LineAnswer::Refused(Refusal::BadTask);
+            }
+        }
+    }
+    LineAnswer::Refused(Refusal::BadShape)
+}

@@ -1,0 +1,238 @@
+-- What is printed fits the room for it: a line prints at most 1,025 bytes (`line-prints`), the end at most 65,545
+-- (`end-prints`). A day that is fit stays fit (`Fit`, `line-fits`): its table's length, and what its first line said.
+-- Assumes nothing.
+use Prim.Native.Nat.{ℕ, zero, suc, _+_, _/_, _%_, _^_, _≤_}
+use mathlib.Core.Path.{_≡_, refl, ap}
+use mathlib.Core.Bool.{Bool, true, false, cond, _&&_, and-eq-true-iff}
+use mathlib.Core.List.{List, [], _∷_}
+use native.Mathlib.Omega.{arith}
+use lib.ListN.{length, drop, length-append, length-take, length-drop, length-replicate}
+use lib.Seq.{length-take-le}
+use lib.Pow.{pow-mono}
+use lib.Dec.{leb, ltb, eqb}
+use borrow.Author.Tests.{leb-true}
+use Rattle.rules.specs.Lists.{all}
+use Rattle.rules.specs.Shape.{shapeOf, homes, keys, places}
+use Rattle.rules.specs.Record.{within}
+use Rattle.frame_rules.specs.Digits.{isDigit, digitsOf, wordDigits}
+use Rattle.frame_digits.specs.Print.{digits-length, words-length}
+use Rattle.frame_rules.specs.Lines.{First, firstOf, inLimits, goodFirst, firstKeys, keysOf, goodLine}
+use Rattle.frame_rules.specs.Rounds.{Floor, allAnswered, play}
+use Rattle.frame_rules.specs.Frame.{Stage, atFirst, among, ended, Day, dawn, used, usedPart, withUsed, after, printed}
+use Rattle.frame_rules.specs.Frame.{error, firstLine, playedLine, frameLine, lineAt, lineIn, endAt, atEnd}
+use Rattle.frame_pieces.specs.Sizes.{play-table, play-answers}
+
+-- ---- the first line
+-- m 1 to 14, r 1 to 12, 1 to 16 tasks
+pub record Limits (f : First) : Type 0 where
+  pub m-low : 1 ≤ f .m
+  pub m-high : f .m ≤ 14
+  pub r-low : 1 ≤ f .r
+  pub r-high : f .r ≤ 12
+  pub tasks-low : 1 ≤ f .tasks
+  pub tasks-high : f .tasks ≤ 16
+
+pub record Between (low high x : ℕ) : Type 0 where
+  pub least : low ≤ x
+  pub most : x ≤ high
+
+pub between : (low high x : ℕ) → within low high x ≡ true → Between low high x
+between low high x e =
+    let (a, b) = and-eq-true-iff (leb low x) (leb x high) .0 e in
+    record { least = leb-true low x a; most = leb-true x high b }
+
+pub limits : (f : First) → inLimits f ≡ true → Limits f
+unfolding inLimits
+limits f e =
+    let (shape, tasks) = and-eq-true-iff (within 1 14 (f .m) && within 1 12 (f .r)) (within 1 16 (f .tasks)) .0 e in
+    let (home, rest) = and-eq-true-iff (within 1 14 (f .m)) (within 1 12 (f .r)) .0 shape in
+    let m = between 1 14 (f .m) home in
+    let r = between 1 12 (f .r) rest in
+    let n = between 1 16 (f .tasks) tasks in
+    record {
+      m-low = m .least;
+      m-high = m .most;
+      r-low = r .least;
+      r-high = r .most;
+      tasks-low = n .least;
+      tasks-high = n .most;
+    }
+
+-- the used part lies in the table
+pub used-fits : (f : First) → inLimits f ≡ true → used f ≤ 32772
+unfolding used places homes
+used-fits f e =
+    let high : 2 ^ f .m ≤ 2 ^ 14 = pow-mono {i = f .m} {j = 14} (limits f e .m-high) in
+    omega arith
+
+-- ---- how much is printed
+first-keys-count : (n : ℕ) (line : List ℕ) → length (firstKeys n line) ≡ n
+unfolding firstKeys
+first-keys-count zero line = refl
+first-keys-count (suc n) line = ap suc (first-keys-count n (drop 8 line))
+
+pub keys-count : (line : List ℕ) → length (keysOf line) ≡ length line / 8
+unfolding keysOf
+keys-count line = first-keys-count (length line / 8) line
+
+printed-length : (text : List ℕ) → length (printed text) ≡ length text + 1
+printed-length text = length-append text (10 ∷ [])
+
+played-prints :
+    (f : First) (table ks : List ℕ) (p : Floor) → length (p .answers) ≤ 512 →
+    length (playedLine f table ks p .prints) ≤ 1025
+unfolding playedLine
+played-prints f table ks p few = go (allAnswered ks p)
+  where
+    go :
+        (done : Bool) →
+        length (cond done
+        (after (among f) (withUsed f (p .table) table) (printed (digitsOf (p .answers))))
+        (after ended (withUsed f (p .table) table) error) .prints) ≤ 1025
+    go true =
+        let e = printed-length (digitsOf (p .answers)) in
+        let h = digits-length (p .answers) in
+        omega arith
+    go false = omega arith
+
+-- a good line has at most 512 keys
+pub few-keys : (f : First) (line : List ℕ) → goodLine (shapeOf (f .m) (f .r)) line ≡ true → length line ≤ 4096
+unfolding goodLine
+few-keys f line e =
+    let front = and-eq-true-iff
+    (all isDigit line && eqb (length line % 8) 0 && leb (length line) 4096)
+    (all (λ (key : ℕ). ltb key (keys (shapeOf (f .m) (f .r)))) (keysOf line)) .0 e .0 in
+    leb-true (length line) 4096 (and-eq-true-iff
+    (all isDigit line && eqb (length line % 8) 0)
+    (leb (length line) 4096) .0 front .1)
+
+frame-prints : (f : First) (table line : List ℕ) → length (frameLine f table line .prints) ≤ 1025
+unfolding frameLine
+frame-prints f table line = go (goodLine (shapeOf (f .m) (f .r)) line) refl
+  where
+    go :
+        (good : Bool) → goodLine (shapeOf (f .m) (f .r)) line ≡ good →
+        length (cond good
+        (playedLine f table (keysOf line) (play (f .m) (f .r) (f .tasks) (usedPart f table) (keysOf line)))
+        (after (among f) table error) .prints) ≤ 1025
+    go true e =
+        let few = few-keys f line e in
+        let count = keys-count line in
+        let size = play-answers (f .m) (f .r) (f .tasks) (usedPart f table) (keysOf line) in
+        played-prints f table (keysOf line) (play (f .m) (f .r) (f .tasks) (usedPart f table) (keysOf line))
+        (omega arith)
+    go false e = omega arith
+
+first-prints : (table line : List ℕ) → length (firstLine table line .prints) ≤ 1025
+unfolding firstLine
+first-prints table line = go (goodFirst line)
+  where
+    go :
+        (good : Bool) →
+        length (cond good (after (among (firstOf line)) table []) (after ended table error) .prints) ≤ 1025
+    go true = omega arith
+    go false = omega arith
+
+prints-at : (s : Stage) (table line : List ℕ) → length (lineAt s table line .prints) ≤ 1025
+prints-at atFirst table line = first-prints table line
+prints-at (among f) table line = frame-prints f table line
+prints-at ended table line = omega arith
+
+pub line-prints : (d : Day) (line : List ℕ) → length (lineIn d line .prints) ≤ 1025
+unfolding lineIn
+line-prints d line = prints-at (d .stage) (d .table) line
+
+-- ---- a fit day
+abbrev pub inStage : Stage → Type 0
+inStage atFirst = Unit {0}
+inStage (among f) = inLimits f ≡ true
+inStage ended = Unit {0}
+
+pub record Fit (d : Day) : Type 0 where
+  pub stage : inStage (d .stage)
+  pub table : length (d .table) ≡ 32772
+
+pub dawn-fits : Fit dawn
+unfolding dawn
+dawn-fits = record { stage = tt; table = length-replicate {A = ℕ} 32772 0 }
+
+ends-at : (s : Stage) (table : List ℕ) → inStage s → length (endAt s table) ≤ 65545
+ends-at atFirst table i = omega arith
+ends-at (among f) table i =
+    let e = printed-length (wordDigits (usedPart f table)) in
+    let h = words-length (usedPart f table) in
+    let l = length-take (used f) table in
+    let u = used-fits f i in
+    omega arith
+ends-at ended table i = omega arith
+
+pub end-prints : (d : Day) → Fit d → length (atEnd d) ≤ 65545
+unfolding atEnd
+end-prints d fit = ends-at (d .stage) (d .table) (fit .stage)
+
+-- the table with its used part as it now is has the length that it had
+used-kept :
+    (f : First) (part table : List ℕ) → inLimits f ≡ true → length table ≡ 32772 →
+    length part ≡ length (usedPart f table) → length (withUsed f part table) ≡ 32772
+used-kept f part table i size same =
+    let u = used-fits f i in
+    let a = length-append part (drop (used f) table) in
+    let b = length-drop (used f) table in
+    let c = length-take-le (used f) table (omega arith) in
+    omega arith
+
+played-fits :
+    (f : First) (table ks : List ℕ) (p : Floor) → inLimits f ≡ true → length (withUsed f (p .table) table) ≡ 32772 →
+    Fit (playedLine f table ks p .day)
+unfolding playedLine
+played-fits f table ks p i size = go (allAnswered ks p)
+  where
+    go :
+        (done : Bool) →
+        Fit
+        (cond done
+        (after (among f) (withUsed f (p .table) table) (printed (digitsOf (p .answers))))
+        (after ended (withUsed f (p .table) table) error) .day)
+    go true = record { stage = i; table = size }
+    go false = record { stage = tt; table = size }
+
+frame-fits :
+    (f : First) (table line : List ℕ) → inLimits f ≡ true → length table ≡ 32772 → Fit (frameLine f table line .day)
+unfolding frameLine
+frame-fits f table line i size = go (goodLine (shapeOf (f .m) (f .r)) line)
+  where
+    go :
+        (good : Bool) →
+        Fit
+        (cond good
+        (playedLine f table (keysOf line) (play (f .m) (f .r) (f .tasks) (usedPart f table) (keysOf line)))
+        (after (among f) table error) .day)
+    go true =
+        let p = play (f .m) (f .r) (f .tasks) (usedPart f table) (keysOf line) in
+        played-fits f table (keysOf line) p i
+        (used-kept f (p .table) table i size
+        (play-table (f .m) (f .r) (f .tasks) (usedPart f table) (keysOf line)))
+    go false = record { stage = i; table = size }
+
+first-fits : (table line : List ℕ) → length table ≡ 32772 → Fit (firstLine table line .day)
+unfolding firstLine goodFirst
+first-fits table line size = go (goodFirst line) refl
+  where
+    go :
+        (good : Bool) → goodFirst line ≡ good →
+        Fit (cond good (after (among (firstOf line)) table []) (after ended table error) .day)
+    go true e =
+        record {
+          stage = and-eq-true-iff (eqb (length line) 6 && all isDigit line) (inLimits (firstOf line)) .0 e .1;
+          table = size;
+        }
+    go false e = record { stage = tt; table = size }
+
+fits-at : (s : Stage) (table line : List ℕ) → inStage s → length table ≡ 32772 → Fit (lineAt s table line .day)
+fits-at atFirst table line i size = first-fits table line size
+fits-at (among f) table line i size = frame-fits f table line i size
+fits-at ended table line i size = record { stage = tt; table = size }
+
+pub line-fits : (d : Day) (line : List ℕ) → Fit d → Fit (lineIn d line .day)
+unfolding lineIn
+line-fits d line fit = fits-at (d .stage) (d .table) line (fit .stage) (fit .table)

@@ -1,0 +1,134 @@
+// Rounds (01, The frame program): every task has its turn, from task 0 up, until all the line's keys are answered or
+// the limit of rounds is met.
+use crate::turn::Sitting;
+use crate::turn::turn;
+use rules::Task;
+ghost use mathlib.Core.Path.{_≡_};
+ghost use mathlib.Core.Bool.{true};
+ghost use Prim.Native.Nat.{_≤_};
+ghost use lib.ListN.{take};
+ghost use Rattle.rules.specs.Lists.{all};
+ghost use Rattle.rules.specs.Record.{atRest};
+ghost use Rattle.frame_rules.specs.Digits.{isDigit};
+ghost use Rattle.frame_rules.specs.Lines.{keysOf};
+ghost use Rattle.frame_rules.specs.Rounds.{round as spec-round, rounds as spec-rounds};
+ghost use Rattle.frame_rounds.specs.Desk.{floorWith, floorOf, answeredAt};
+
+// Places for sixteen tasks, with the key that each holds, and how many keys are taken.
+pub struct Desk {
+    pub tasks: [Task; 16],
+    pub holds: [usize; 16],
+    pub taken: usize,
+}
+
+// One round of n tasks. The desk comes in its parts, since the array's length is known of a parameter.
+fn round(
+    m: u32,
+    r: u32,
+    n: usize,
+    table: &mut [u8],
+    line: &[u8],
+    answers: &mut [u8],
+    seats: [Task; 16],
+    numbers: [usize; 16],
+    count: usize,
+) -> Desk
+    requires { ⌜ n ≤ 16 ⌝ ∗ ⌜ all isDigit (now line) ≡ true ⌝ }
+    ensures { λ d. ⌜ floorOf n (now (table .exit)) (now (answers .exit)) d
+        ≡ spec-round m r (keysOf (now (line .entry)))
+        (floorWith n (now (table .entry)) (now (answers .entry)) seats numbers count) ⌝ }
+{
+    let mut tasks = seats;
+    let mut holds = numbers;
+    let mut taken = count;
+    let mut i = 0;
+    while i < n {
+        let s = turn(
+            m,
+            r,
+            table,
+            line,
+            answers,
+            Sitting {
+                task: tasks[i],
+                holds: holds[i],
+                taken: taken,
+            },
+        );
+        let task = s.task;
+        let number = s.holds;
+        tasks[i] = task;
+        holds[i] = number;
+        taken = s.taken;
+        i += 1;
+    }
+    Desk {
+        tasks: tasks,
+        holds: holds,
+        taken: taken,
+    }
+}
+
+// Whether the first n tasks are all idle or done.
+fn all_at_rest(tasks: [Task; 16], n: usize) -> bool
+    requires { ⌜ n ≤ 16 ⌝ }
+    ensures { λ b. ⌜ b ≡ all atRest (take n tasks) ⌝ }
+{
+    let mut i = 0;
+    while i < n {
+        let phase = tasks[i].phase;
+        match phase {
+            0 | 13 => {
+                i += 1;
+            }
+            _ => {
+                return false;
+            }
+        }
+    }
+    true
+}
+
+// Whether all of the line's keys are answered.
+pub fn all_answered(n: usize, line: &[u8], desk: Desk) -> bool
+    requires { ⌜ n ≤ 16 ⌝ }
+    ensures { λ b. ⌜ b ≡ answeredAt n (keysOf (now (line .entry))) desk ⌝ }
+{
+    let tasks = desk.tasks;
+    if desk.taken == line.len() / 8 {
+        all_at_rest(tasks, n)
+    } else {
+        false
+    }
+}
+
+// Rounds until all the line's keys are answered, `limit` at most.
+pub fn rounds(
+    m: u32,
+    r: u32,
+    n: usize,
+    limit: u64,
+    table: &mut [u8],
+    line: &[u8],
+    answers: &mut [u8],
+    desk: Desk,
+) -> Desk
+    requires { ⌜ n ≤ 16 ⌝ ∗ ⌜ all isDigit (now line) ≡ true ⌝ }
+    ensures { λ d. ⌜ floorOf n (now (table .exit)) (now (answers .exit)) d
+        ≡ spec-rounds m r (keysOf (now (line .entry))) limit
+        (floorOf n (now (table .entry)) (now (answers .entry)) desk) ⌝ }
+{
+    let mut d = desk;
+    let mut left = limit;
+    while 0 < left {
+        if all_answered(n, line, d) {
+            return d;
+        } else {
+            let tasks = d.tasks;
+            let holds = d.holds;
+            d = round(m, r, n, table, line, answers, tasks, holds, d.taken);
+            left -= 1;
+        }
+    }
+    d
+}

@@ -1,0 +1,103 @@
+// One task's turn (01, The frame program): idle or done it takes the line's next key if there is one, else it makes a
+// step; when it is done, its key is answered.
+use frame_digits::read::number;
+use rules::Task;
+use rules::Turn;
+use task_step::give::give;
+use task_step::step::step;
+ghost use mathlib.Core.Path.{_≡_};
+ghost use mathlib.Core.Bool.{true};
+ghost use Prim.Native.Nat.{_<_};
+ghost use lib.ListN.{length, getD};
+ghost use Rattle.rules.specs.Lists.{all};
+ghost use Rattle.task_step.specs.Given.{turnSays};
+ghost use Rattle.frame_rules.specs.Digits.{isDigit};
+ghost use Rattle.frame_rules.specs.Lines.{keysOf};
+ghost use Rattle.frame_rounds.specs.Sitting.{leftTask, sat, answered, takeNext, makeStep, turnOne};
+
+// A task, which of the line's keys it holds (by number, from 0), and how many keys are taken.
+pub struct Sitting {
+    pub task: Task,
+    pub holds: usize,
+    pub taken: usize,
+}
+
+// The record that follows, or the same where the call was refused.
+fn kept(t: Task, x: Turn) -> Task
+    ensures { λ u. ⌜ u ≡ leftTask (turnSays t x) ⌝ }
+{
+    match x {
+        Turn::Next(u) => u,
+        Turn::Refused(_) => t,
+    }
+}
+
+// The key with a number in the line.
+pub fn key_at(line: &[u8], i: usize) -> u32
+    requires { ⌜ all isDigit (now line) ≡ true ⌝ ∗ ⌜ i < length (keysOf (now line)) ⌝ }
+    ensures { λ k. ⌜ k ≡ getD (keysOf (now (line .entry))) i 0 ⌝ }
+{
+    number(line, 8 * i, 8)
+}
+
+// A task at rest takes the next key, if there is one.
+fn take_next(m: u32, r: u32, line: &[u8], s: Sitting) -> Sitting
+    requires { ⌜ all isDigit (now line) ≡ true ⌝ }
+    ensures { λ x. ⌜ x ≡ takeNext m r (keysOf (now (line .entry))) s ⌝ }
+{
+    let i = s.taken;
+    if i < line.len() / 8 {
+        let key = key_at(line, i);
+        Sitting {
+            task: kept(s.task, give(m, r, key, s.task)),
+            holds: i,
+            taken: i + 1,
+        }
+    } else {
+        s
+    }
+}
+
+// The answer of a done task, in the slot of the key that it holds.
+fn answer_if(answers: &mut [u8], i: usize, t: Task)
+    ensures { λ _. ⌜ now (answers .exit) ≡ answered (now (answers .entry)) i t ⌝ }
+{
+    if t.phase == 13 {
+        if i < answers.len() {
+            answers[i] = t.answer;
+        }
+    }
+}
+
+// A step; a task that is then done has answered its key.
+fn make_step(m: u32, r: u32, table: &mut [u8], answers: &mut [u8], s: Sitting) -> Sitting
+    ensures { λ x. ⌜ sat (now (table .exit)) (now (answers .exit)) x
+        ≡ makeStep m r (now (table .entry)) (now (answers .entry)) s ⌝ }
+{
+    let task = kept(s.task, step(m, r, table, s.task));
+    answer_if(answers, s.holds, task);
+    Sitting {
+        task: task,
+        holds: s.holds,
+        taken: s.taken,
+    }
+}
+
+pub fn turn(
+    m: u32,
+    r: u32,
+    table: &mut [u8],
+    line: &[u8],
+    answers: &mut [u8],
+    s: Sitting,
+) -> Sitting
+    requires { ⌜ all isDigit (now line) ≡ true ⌝ }
+    ensures { λ x. ⌜ sat (now (table .exit)) (now (answers .exit)) x
+        ≡ turnOne m r (keysOf (now (line .entry))) (now (table .entry)) (now (answers .entry)) s ⌝ }
+{
+    let phase = s.task.phase;
+    match phase {
+        0 | 13 => take_next(m, r, line, s),
+        _ => make_step(m, r, table, answers, s),
+    }
+}

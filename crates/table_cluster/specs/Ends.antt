@@ -1,0 +1,231 @@
+-- The ends of a home's cluster, with its virgin and change bits counted on the way to them: `leftEnd`, `rightEnd`.
+-- `Counted`: the bits of some words. `Leftward` and `Rightward`: what is known on the way to an end, with the laws for
+-- its start, for each place and for the gap.
+-- Assumes nothing.
+use Prim.Native.Nat.{ℕ, zero, suc, _+_, _-_, _*_, _≤_, _<_}
+use mathlib.Core.Path.{_≡_, refl, sym, _∙_, ap}
+use mathlib.Core.Bool.{Bool, true, false, true≢false}
+use mathlib.Core.List.{List, [], _∷_, _++_}
+use native.Mathlib.Numerals.{add-one}
+use native.Mathlib.Omega.{arith}
+use lib.ListN.{length, getD, take, length-take, length-drop}
+use lib.Seq.{slice}
+use Rattle.rules.specs.Lists.{bitOf, count}
+use Rattle.rules.specs.Word.{Word, wordOf}
+use Rattle.rules.specs.Bytes.{wordsOf}
+use Rattle.rules.specs.Table.{at, between, occupied, leftGap, rightGap}
+use Rattle.theory.specs.Dealt.{isChange, isVirgin, isOccupied}
+use Rattle.theory.specs.Gaps.{leftGap-is, rightGap-is}
+use Rattle.theory.specs.Places.{occupied-at, occupied-length}
+use Rattle.table_cluster.specs.Scan.{words-count, left-step, left-stop, right-step, right-stop}
+use Rattle.table_cluster.specs.Run.{run-step, run-end, run-last}
+use Rattle.table_cluster.specs.declared.gaps.End.{End}
+
+-- a gap, with the bits of some words
+abbrev endOf : ℕ → List Word → End
+endOf gap ws = record { gap = record { 0 = gap }; virgins = count isVirgin ws; changes = count isChange ws }
+
+-- the left gap, with the bits of the words before the home
+unfoldable pub leftEnd : List Word → ℕ → End
+leftEnd ws home =
+    let l = leftGap (occupied ws) home in
+    endOf l (slice (suc l) home ws)
+
+-- the right gap, with the bits of the whole cluster
+unfoldable pub rightEnd : List Word → ℕ → End
+rightEnd ws home =
+    let l = leftGap (occupied ws) home in
+    let r = rightGap (occupied ws) home in
+    endOf r (between ws l r)
+
+-- ---- the bits of the words from place a up to b
+count-few : (f : Word → Bool) (ws : List Word) → count f ws ≤ length ws
+unfolding count
+count-few f [] = omega arith
+count-few f (w ∷ ws) = go (f w) (count-few f ws)
+  where
+    go : (b : Bool) → count f ws ≤ length ws → bitOf b + count f ws ≤ suc (length ws)
+    go true rest = omega arith
+    go false rest = omega arith
+
+count-last : (f : Word → Bool) (ws : List Word) (w : Word) → count f (ws ++ (w ∷ [])) ≡ count f ws + bitOf (f w)
+unfolding count
+count-last f [] w = omega arith
+count-last f (v ∷ ws) w = omega (arith, count-last f ws w)
+
+pub record Counted (bs : List ℕ) (a b n m : ℕ) : Type 0 where
+  pub virgins : n ≡ count isVirgin (slice a b (wordsOf bs))
+  pub changes : m ≡ count isChange (slice a b (wordsOf bs))
+
+counted-none : (bs : List ℕ) (a : ℕ) → Counted bs a a 0 0
+unfolding count
+counted-none bs a = let none = run-end bs a a (omega arith) in record { virgins = rw none; changes = rw none }
+
+-- they are no more than the words
+pub counted-few : {bs : List ℕ} {a b n m : ℕ} → Counted bs a b n m → (n ≤ b - a) × (m ≤ b - a)
+counted-few {bs} {a} {b} k =
+    let ws = wordsOf bs in
+    let size : length (slice a b ws) ≤ b - a = omega (arith, length-drop a (take b ws), length-take b ws) in
+    let run = slice a b ws in
+    (omega (arith, k .virgins, count-few isVirgin run), omega (arith, k .changes, count-few isChange run))
+
+-- a word as it is read, with its bits
+pub record Bits (bs : List ℕ) (i w x y : ℕ) : Type 0 where
+  pub word : wordOf w ≡ at (wordsOf bs) i
+  pub virgin : x ≡ bitOf (wordOf w .virgin)
+  pub change : y ≡ bitOf (wordOf w .change)
+
+-- one word more, before the others or after them
+module _ {bs : List ℕ} {i w x y : ℕ} (bits : Bits bs i w x y) where
+  counted-before :
+      {b n m : ℕ} → i < b → 2 * b ≤ length bs → Counted bs (i + 1) b n m → Counted bs i b (n + x) (m + y)
+  unfolding count
+  counted-before {b} lt within k =
+      let step = run-step bs i b lt within in
+      record {
+        virgins = rw (step, ← bits .word, ← bits .virgin) (omega (arith, k .virgins));
+        changes = rw (step, ← bits .word, ← bits .change) (omega (arith, k .changes));
+      }
+
+  counted-after :
+      {a n m : ℕ} → a ≤ i → 2 * i + 1 < length bs → Counted bs a i n m → Counted bs a (i + 1) (n + x) (m + y)
+  counted-after {a} le within k =
+      let step = run-last bs a i le within in
+      let run = slice a i (wordsOf bs) in
+      let w = at (wordsOf bs) i in
+      record {
+        virgins = rw (step, count-last isVirgin run w, ← bits .word, ← bits .virgin, ← k .virgins);
+        changes = rw (step, count-last isChange run w, ← bits .word, ← bits .change, ← k .changes);
+      }
+
+-- ---- occupied places, by their words
+occupied-here :
+    {b : Bool} (bs : List ℕ) (i w : ℕ) → wordOf w ≡ at (wordsOf bs) i → wordOf w .occupied ≡ b →
+    getD (occupied (wordsOf bs)) i false ≡ b
+occupied-here bs i w word is = occupied-at (wordsOf bs) i ∙ ap isOccupied (sym word) ∙ is
+
+-- the left guard is unoccupied, so an occupied place has one before it
+pub some-before : (ws : List Word) (i : ℕ) → at ws 0 .occupied ≡ false → at ws i .occupied ≡ true → 0 < i
+some-before ws zero free full = absurd (true≢false (sym full ∙ free))
+some-before ws (suc i) free full = omega arith
+
+own-left : (os : List Bool) (i : ℕ) → getD os i false ≡ false → leftGap os i ≡ i
+unfolding leftGap
+own-left os zero free = refl
+own-left os (suc i) free = left-stop os (suc i) (omega arith) free
+
+-- ---- to the left: a place that is reached from the home, with the bits of the words between
+pub record Leftward (bs : List ℕ) (home i n m : ℕ) : Type 0 where
+  pub inside : 2 * home + 1 < length bs
+  pub before : i < home
+  pub gap : leftGap (occupied (wordsOf bs)) i ≡ leftGap (occupied (wordsOf bs)) home
+  pub counted : Counted bs (i + 1) home n m
+
+pub left-begins :
+    (bs : List ℕ) (i : ℕ) → 2 * (i + 1) + 1 < length bs → at (wordsOf bs) (i + 1) .occupied ≡ true →
+    Leftward bs (i + 1) i 0 0
+left-begins bs i within full =
+    let os = occupied (wordsOf bs) in
+    let back : i ≡ i + 1 - 1 = omega arith in
+    record {
+      inside = within;
+      before = omega arith;
+      gap = ap (leftGap os) back ∙ left-step os (i + 1) (omega arith) (occupied-at (wordsOf bs) (i + 1) ∙ full);
+      counted = counted-none bs (i + 1);
+    }
+
+module _ {bs : List ℕ} {home i n m : ℕ} (here : Leftward bs home i n m) (w : ℕ) where
+  pub left-on :
+      (x y : ℕ) → Bits bs i w x y → 0 < i → wordOf w .occupied ≡ true →
+      Leftward bs home (i - 1) (n + x) (m + y)
+  left-on x y bits some full =
+      let next : i - 1 + 1 ≡ i = omega arith in
+      record {
+        inside = here .inside;
+        before = omega (arith, here .before);
+        gap = left-step (occupied (wordsOf bs)) i some (occupied-here bs i w (bits .word) full) ∙ here .gap;
+        counted = rw next (counted-before bits (here .before) (omega (arith, here .inside)) (here .counted));
+      }
+
+  pub left-ends :
+      wordOf w ≡ at (wordsOf bs) i → wordOf w .occupied ≡ false →
+      record { gap = record { 0 = i }; virgins = n; changes = m } ≡ leftEnd (wordsOf bs) home
+  unfolding leftEnd
+  left-ends word free =
+      rw (
+        ← here .gap,
+        own-left (occupied (wordsOf bs)) i (occupied-here bs i w word free),
+        here .counted .virgins,
+        here .counted .changes,
+        add-one i,
+      )
+
+-- ---- to the right: a place that is reached from the home, with the bits of the cluster's words before it
+pub record Rightward (bs : List ℕ) (home i n m : ℕ) : Type 0 where
+  pub inside : 2 * i + 1 < length bs
+  pub after : leftGap (occupied (wordsOf bs)) home < i
+  pub gap : rightGap (occupied (wordsOf bs)) i ≡ rightGap (occupied (wordsOf bs)) home
+  pub counted : Counted bs (suc (leftGap (occupied (wordsOf bs)) home)) i n m
+
+-- the right gap of the home is in the table
+abbrev Closed : List ℕ → ℕ → Type 0
+Closed bs home = 2 * rightGap (occupied (wordsOf bs)) home + 1 < length bs
+
+pub right-from : (os : List Bool) (i : ℕ) → i ≤ rightGap os i
+right-from os i = rightGap-is os i .side
+
+left-below :
+    (bs : List ℕ) (home : ℕ) → at (wordsOf bs) 0 .occupied ≡ false → at (wordsOf bs) home .occupied ≡ true →
+    leftGap (occupied (wordsOf bs)) home < home
+left-below bs home free full =
+    let ws = wordsOf bs in
+    let os = occupied ws in
+    let some = some-before ws home free full in
+    let low : leftGap os (home - 1) ≤ home - 1 = leftGap-is os (home - 1) (occupied-at ws 0 ∙ free) .side in
+    omega (arith, some, low, left-step os home some (occupied-at ws home ∙ full))
+
+pub right-begins :
+    (bs : List ℕ) (home : ℕ) → Closed bs home → at (wordsOf bs) 0 .occupied ≡ false →
+    at (wordsOf bs) home .occupied ≡ true → (l : End) → l ≡ leftEnd (wordsOf bs) home →
+    Rightward bs home home (l .virgins) (l .changes)
+unfolding leftEnd
+right-begins bs home closed free full l is =
+    record {
+      inside = omega (arith, closed, right-from (occupied (wordsOf bs)) home);
+      after = left-below bs home free full;
+      gap = refl;
+      counted =
+          record {
+            virgins = ap (λ (e : End). e .virgins) is;
+            changes = ap (λ (e : End). e .changes) is;
+          };
+    }
+
+module _ {bs : List ℕ} {home i n m : ℕ} (here : Rightward bs home i n m) (w : ℕ) where
+  within : i < length (occupied (wordsOf bs))
+  within = omega (arith, here .inside, occupied-length (wordsOf bs), words-count bs)
+
+  pub right-on :
+      (x y : ℕ) → Bits bs i w x y → Closed bs home → wordOf w .occupied ≡ true →
+      Rightward bs home (i + 1) (n + x) (m + y)
+  right-on x y bits closed full =
+      let os = occupied (wordsOf bs) in
+      let same = right-step os i within (occupied-here bs i w (bits .word) full) ∙ here .gap in
+      record {
+        inside = omega (arith, closed, same, right-from os (i + 1));
+        after = omega (arith, here .after);
+        gap = same;
+        counted = counted-after bits (here .after) (here .inside) (here .counted);
+      }
+
+  pub right-ends :
+      wordOf w ≡ at (wordsOf bs) i → wordOf w .occupied ≡ false →
+      record { gap = record { 0 = i }; virgins = n; changes = m } ≡ rightEnd (wordsOf bs) home
+  unfolding rightEnd
+  right-ends word free =
+      rw (
+        ← here .gap,
+        right-stop (occupied (wordsOf bs)) i within (occupied-here bs i w word free),
+        here .counted .virgins,
+        here .counted .changes,
+      )

@@ -1,0 +1,257 @@
+-- The surroundings of a home as find and put take them: `around-check`, what a check of its cluster tells, and
+-- `alone-sound`, `alone-locked`, the same of an empty home. `Open`: they are sound and unlocked; `cluster-inside`,
+-- `beside-cluster`, `read-cluster`: then the cluster stands in the table, and a read from its left end reads its keys.
+-- Assumes nothing.
+use Prim.Native.Nat.{ℕ, suc, _+_, _*_, _≤_, _<_}
+use mathlib.Core.Path.{_≡_, refl, sym, _∙_, ap, ap₂}
+use mathlib.Core.Bool.{Bool, true, false, _&&_, _||_}
+use mathlib.Core.List.{List, []}
+use native.Mathlib.Numerals.{add-one}
+use native.Mathlib.Omega.{arith}
+use lib.ListN.{length, take, drop-of-length-le, length-take}
+use lib.Seq.{slice-cons, slice-empty}
+use Rattle.rules.specs.declared.Shape.{Shape}
+use Rattle.rules.specs.Lists.{count, all, any}
+use Rattle.rules.specs.Word.{Word, zeroWord, isVoid}
+use Rattle.rules.specs.Bytes.{wordsOf}
+use Rattle.rules.specs.Shape.{places}
+use Rattle.rules.specs.Entry.{Entry}
+use Rattle.rules.specs.Table.{at, occupied, leftGap, rightGap, between, cluster, soundRun, guardsVoid, locked}
+use Rattle.rules.specs.Table.{endsInChange, rising, deal, entriesBetween, clusterEntries}
+use Rattle.rules.specs.Find.{around, soundAround, lockedAround}
+use Rattle.table_words.specs.Range.{InRange, homes-high}
+use Rattle.table_words.specs.Layout.{words-length}
+use Rattle.theory.specs.Gaps.{HomePlace}
+use Rattle.theory.specs.Dealt.{isVirgin, isChange, and-left, and-right}
+use Rattle.theory.specs.Cut.{CutHome, cut-home}
+use Rattle.theory.specs.Places.{occupied-at, occupied-length, void-free}
+use Rattle.table_cluster.specs.Homes.{Housed, sound-housed}
+use Rattle.table_cluster.specs.Scan.{left-stop, right-stop}
+use Rattle.table_read.specs.Read.{readOf}
+use Rattle.table_cluster.specs.Ends.{leftEnd, rightEnd}
+use Rattle.table_read.specs.Beside.{Beside, readFrom, read-from, housed-beside}
+use Rattle.table_cluster.specs.Check.{checkOf, soundBetween}
+use Rattle.table_cluster.specs.declared.gaps.End.{End}
+use Rattle.table_read.specs.declared.read.Read.{Read}
+use Rattle.table_cluster.specs.declared.run.Check.{Check}
+
+-- the surroundings are sound and unlocked
+pub record Open (sh : Shape) (ws : List Word) (home : ℕ) : Type 0 where
+  pub sound : soundAround sh ws home ≡ true
+  pub free : lockedAround ws home ≡ false
+
+pub open-guards : {sh : Shape} {ws : List Word} {home : ℕ} → Open sh ws home → guardsVoid sh ws ≡ true
+unfolding soundAround
+open-guards {sh} {ws} o = and-left (guardsVoid sh ws) _ (and-left (guardsVoid sh ws && _) _ (o .sound))
+
+pub left-free : (sh : Shape) (ws : List Word) → guardsVoid sh ws ≡ true → at ws 0 .occupied ≡ false
+unfolding guardsVoid
+left-free sh ws void = void-free (at ws 0) (and-left (isVoid (at ws 0)) _ void)
+
+module _ (sh : Shape) (ws : List Word) (home : ℕ) where
+  pub around-barred : guardsVoid sh ws ≡ false → soundAround sh ws home ≡ false
+  unfolding soundAround
+  around-barred barred = rw barred
+
+  module _ (void : guardsVoid sh ws ≡ true) where
+    -- the cluster and its ends, by a check of them
+    pub around-check :
+        checkOf sh ws (leftGap (occupied ws) home) (rightGap (occupied ws) home)
+        ≡ record { sound = soundAround sh ws home; locked = lockedAround ws home }
+    unfolding checkOf soundBetween soundAround lockedAround around cluster
+    around-check = rw void
+
+    -- an unoccupied home is its own gap on both sides, with nothing between
+    module _ (size : length ws ≡ places sh) (h : HomePlace sh home) (empty : at ws home .occupied ≡ false) where
+      own-left : leftGap (occupied ws) home ≡ home
+      own-left = left-stop (occupied ws) home (h .first) (occupied-at ws home ∙ empty)
+
+      own-right : rightGap (occupied ws) home ≡ home
+      unfolding places
+      own-right =
+          right-stop
+          (occupied ws)
+          home
+          (omega (arith, occupied-length ws, size, h .last))
+          (occupied-at ws home ∙ empty)
+
+      none-between : between ws home home ≡ []
+      none-between = drop-of-length-le (take home ws) {i = suc home} (omega (arith, length-take home ws))
+
+      pub alone-sound : soundAround sh ws home ≡ isVoid (at ws home)
+      unfolding soundAround cluster soundRun count all rising endsInChange
+      alone-sound = rw (void, own-left, own-right, none-between) (twice (isVoid (at ws home)))
+        where
+          twice : (v : Bool) → (v && v && true) ≡ v
+          twice true = refl
+          twice false = refl
+
+      pub alone-locked : lockedAround ws home ≡ at ws home .lock
+      unfolding lockedAround around locked any places
+      alone-locked =
+          rw (
+            own-left,
+            own-right,
+            slice-cons home (suc home) ws zeroWord (omega arith) (omega (arith, size, h .last)),
+            slice-empty (suc home) ws,
+          )
+          (once (at ws home .lock))
+        where
+          once : (l : Bool) → (l || false) ≡ l
+          once true = refl
+          once false = refl
+
+      pub alone-entries : clusterEntries ws home ≡ []
+      unfolding clusterEntries entriesBetween deal
+      alone-entries = rw (own-left, own-right, none-between)
+
+-- ---- a cluster, and a read of it from its left end
+pub record Inside (sh : Shape) (ws : List Word) (home : ℕ) : Type 0 where
+  pub after : leftGap (occupied ws) home < home
+  pub before : home < rightGap (occupied ws) home
+  pub low : rightGap (occupied ws) home < places sh
+  pub housed : Housed (between ws (leftGap (occupied ws) home) (rightGap (occupied ws) home))
+
+module _ {sh : Shape} {ws : List Word} {home : ℕ} (size : length ws ≡ places sh) (h : HomePlace sh home)
+    (full : at ws home .occupied ≡ true)
+  where
+    -- void guards bound it
+    pub cluster-cut : guardsVoid sh ws ≡ true → CutHome ws home
+    cluster-cut void = cut-home sh ws home size void h full
+
+    pub cluster-inside : Open sh ws home → Inside sh ws home
+    unfolding soundAround cluster
+    cluster-inside o =
+        let cut = cluster-cut (open-guards o) in
+        record {
+          after = cut .after;
+          before = cut .before;
+          low = omega (arith, cut .inside);
+          housed = sound-housed sh (cluster ws home) (and-right (guardsVoid sh ws && _) _ (o .sound));
+        }
+
+module _ {sh : Shape} (bs : List ℕ) (e : Entry) (range : InRange sh) (even : length bs ≡ 2 * places sh)
+    (i : Inside sh (wordsOf bs) (e .home))
+  where
+    abbrev l : ℕ
+    l = leftGap (occupied (wordsOf bs)) (e .home)
+
+    abbrev r : ℕ
+    r = rightGap (occupied (wordsOf bs)) (e .home)
+
+    within : 2 * r < length bs
+    within = omega (arith, i .low)
+
+    small : r < 4294967295
+    unfolding places
+    small = omega (arith, i .low, homes-high sh range)
+
+    read-cluster : readFrom bs l e ≡ readOf e (clusterEntries (wordsOf bs) (e .home))
+    unfolding clusterEntries
+    read-cluster =
+        read-from e bs l r (i .after) (i .before) (omega (arith, within)) (omega (arith, small)) (i .housed)
+
+    -- the same of a read from the left end that was found
+    pub read-beside :
+        (end : End) (read : Read) → end ≡ leftEnd (wordsOf bs) (e .home) → read ≡ readFrom bs (end .gap .0) e →
+        read ≡ readOf e (clusterEntries (wordsOf bs) (e .home))
+    unfolding leftEnd
+    read-beside end read is reads =
+        reads ∙ ap (λ (a : End). readFrom bs (a .gap .0) e) is ∙ read-cluster
+
+    pub beside-cluster : (end : End) → end ≡ leftEnd (wordsOf bs) (e .home) → Beside bs end (e .home)
+    unfolding leftEnd
+    beside-cluster end is =
+        housed-beside
+        e
+        bs
+        l
+        r
+        (i .after)
+        (i .before)
+        (omega (arith, within))
+        (omega (arith, small))
+        (i .housed)
+        end
+        (ap (λ (a : End). a .gap .0) is)
+        (ap (λ (a : End). a .virgins) is ∙ rw add-one)
+        (ap (λ (a : End). a .changes) is ∙ rw add-one)
+
+-- ---- an occupied home between void guards, as find and put come to it: what they ask for, and what the check tells
+pub record Crowded (sh : Shape) (bs : List ℕ) (home : ℕ) : Type 0 where
+  pub range : InRange sh
+  pub even : length bs ≡ 2 * places sh
+  pub home-place : HomePlace sh home
+  pub void : guardsVoid sh (wordsOf bs) ≡ true
+  pub full : at (wordsOf bs) home .occupied ≡ true
+
+module _ {sh : Shape} {bs : List ℕ} {home : ℕ} (c : Crowded sh bs home) where
+  size : length (wordsOf bs) ≡ places sh
+  size = words-length bs (places sh) (c .even)
+
+  cut : CutHome (wordsOf bs) home
+  cut = cluster-cut size (c .home-place) (c .full) (c .void)
+
+  pub home-inside : 2 * home + 1 < length bs
+  unfolding places
+  home-inside = omega (arith, c .even, c .home-place .last)
+
+  pub left-open : at (wordsOf bs) 0 .occupied ≡ false
+  left-open = left-free sh (wordsOf bs) (c .void)
+
+  pub table-small : length bs ≤ 2097156
+  unfolding places
+  table-small = omega (arith, c .even, homes-high sh (c .range))
+
+  pub gap-inside : 2 * rightGap (occupied (wordsOf bs)) home + 1 < length bs
+  gap-inside = omega (arith, cut .inside, size, c .even)
+
+  module _ (l r : End) (left : l ≡ leftEnd (wordsOf bs) home) (right : r ≡ rightEnd (wordsOf bs) home) where
+    left-gap : l .gap .0 ≡ leftGap (occupied (wordsOf bs)) home
+    unfolding leftEnd
+    left-gap = ap (λ (a : End). a .gap .0) left
+
+    right-gap : r .gap .0 ≡ rightGap (occupied (wordsOf bs)) home
+    unfolding rightEnd
+    right-gap = ap (λ (a : End). a .gap .0) right
+
+    pub ends-apart : l .gap .0 < r .gap .0
+    ends-apart = omega (arith, left-gap, right-gap, cut .after, cut .before)
+
+    pub end-inside : 2 * r .gap .0 + 1 < length bs
+    end-inside = omega (arith, right-gap, gap-inside)
+
+    pub virgins-counted : r .virgins ≡ count isVirgin (between (wordsOf bs) (l .gap .0) (r .gap .0))
+    unfolding rightEnd
+    virgins-counted = rw (left-gap, right-gap) (ap (λ (a : End). a .virgins) right)
+
+    pub changes-counted : r .changes ≡ count isChange (between (wordsOf bs) (l .gap .0) (r .gap .0))
+    unfolding rightEnd
+    changes-counted = rw (left-gap, right-gap) (ap (λ (a : End). a .changes) right)
+
+    checked :
+        (run : Check) → run ≡ checkOf sh (wordsOf bs) (l .gap .0) (r .gap .0) →
+        run ≡ record { sound = soundAround sh (wordsOf bs) home; locked = lockedAround (wordsOf bs) home }
+    checked run is =
+        is
+        ∙ ap₂ (checkOf sh (wordsOf bs)) left-gap right-gap
+        ∙ around-check sh (wordsOf bs) home (c .void)
+
+    pub told-sound :
+        (run : Check) → run ≡ checkOf sh (wordsOf bs) (l .gap .0) (r .gap .0) →
+        run .sound ≡ soundAround sh (wordsOf bs) home
+    told-sound run is = ap (λ (a : Check). a .sound) (checked run is)
+
+    pub told-locked :
+        (run : Check) → run ≡ checkOf sh (wordsOf bs) (l .gap .0) (r .gap .0) →
+        run .locked ≡ lockedAround (wordsOf bs) home
+    told-locked run is = ap (λ (a : Check). a .locked) (checked run is)
+
+    pub told-open :
+        (run : Check) → run ≡ checkOf sh (wordsOf bs) (l .gap .0) (r .gap .0) → run .sound ≡ true →
+        run .locked ≡ false → Open sh (wordsOf bs) home
+    told-open run is sound free =
+        record { sound = sym (told-sound run is) ∙ sound; free = sym (told-locked run is) ∙ free }
+
+  pub crowded-inside : Open sh (wordsOf bs) home → Inside sh (wordsOf bs) home
+  crowded-inside o = cluster-inside size (c .home-place) (c .full) o

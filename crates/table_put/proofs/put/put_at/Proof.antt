@@ -1,0 +1,110 @@
+-- `put_at` meets its contract: the guards decide, then the home.
+-- Assumes nothing.
+use mathlib.Core.Path.{_≡_, sym, _∙_, ap}
+use mathlib.Core.Bool.{Bool}
+use borrow.Author.Needs.{needs}
+use native.Mathlib.Omega.{arith}
+use denote.Ref.{now}
+use Rattle.rules.specs.Bytes.{wordsOf}
+use Rattle.rules.specs.Shape.{places}
+use Rattle.rules.specs.Table.{at}
+use Rattle.table_words.specs.Range.{remainders-high}
+use Rattle.table_words.specs.Layout.{words-length}
+use Rattle.theory.specs.Dealt.{isOccupied}
+use Rattle.table_read.specs.Read.{entry}
+use Rattle.table_put.specs.Putting.{put-barred, put-empty}
+use Rattle.table_put.proofs.put.put_at.Statement.{statement}
+use Rattle.table_put.proofs.put.put_at.Tie as tie
+
+-- the home's bit, as it was tested
+home-bit :
+    (tested : tie.After-occupied) (b : Bool) → tested .occupied .result ≡ b →
+    let start = tested .before .before .before .before .before .before .before in
+    at (wordsOf (now (start .args .table))) (start .args .home .0) .occupied ≡ b
+home-bit tested b is =
+    sym (ap isOccupied (tested .before .word-at .ensures)) ∙ sym (tested .occupied .ensures) ∙ is
+
+guards-void-requires : tie.Need-guards-void-requires
+guards-void-requires c κs = search needs
+
+word-at-requires : tie.Need-word-at-requires
+unfolding places
+word-at-requires c κs =
+    let start = c .before .before .before .before .before in
+    omega (arith, start .pre .1 .0, start .pre .1 .1 .home-high)
+
+occupied-requires : tie.Need-occupied-requires
+occupied-requires c κs = search needs
+
+put-cluster-requires : tie.Need-put-cluster-requires
+put-cluster-requires c κs =
+    let full = c .before in
+    let guarded = full .before .before .before .before in
+    let start = guarded .before .before .before .before in
+    let void = sym (guarded .before .guards-void .ensures) ∙ guarded .if1 .taken in
+    (start .pre .0, (start .pre .1 .0, (start .pre .1 .1, (void, home-bit (full .before) _ (full .if2 .taken)))))
+
+same-length : tie.Need-same-length
+same-length c = search needs
+
+returns : tie.Need-returns
+returns c = search needs
+
+put-empty-requires : tie.Need-put-empty-requires
+unfolding places
+put-empty-requires c κs =
+    let start = c .before .before .before .before .before .before .before .before .before in
+    let i = start .pre .1 .1 in
+    omega (arith, start .pre .1 .0, i .home-high, i .remainder-low, remainders-high (start .args .sh) (start .pre .0))
+
+same-length-2 : tie.Need-same-length-2
+same-length-2 c = search needs
+
+returns-2 : tie.Need-returns-2
+returns-2 c =
+    let put = c .before .before in
+    let empty = put .before .before in
+    let guarded = empty .before .before .before .before in
+    let start = guarded .before .before .before .before in
+    rw
+    (put-empty
+    _
+    _
+    (entry (start .args .home .0) (start .args .x))
+    (start .pre .0)
+    (start .pre .1 .1)
+    (words-length (now (start .args .table)) (places (start .args .sh)) (start .pre .1 .0))
+    (sym (guarded .before .guards-void .ensures) ∙ guarded .if1 .taken)
+    (home-bit (empty .before) _ (empty .if2 .left)))
+    (put .put-empty .ensures)
+
+same-length-3 : tie.Need-same-length-3
+same-length-3 c = search needs
+
+returns-3 : tie.Need-returns-3
+returns-3 c =
+    let start = c .before .before .before .before in
+    rw (put-barred
+    _
+    _
+    (entry (start .args .home .0) (start .args .x))
+    (start .pre .0)
+    (start .pre .1 .1)
+    (words-length (now (start .args .table)) (places (start .args .sh)) (start .pre .1 .0))
+    (sym (c .before .guards-void .ensures) ∙ c .if1 .left))
+
+pub put-at-spec : {M : Type 1} → statement M
+put-at-spec =
+    tie.close
+    (tie.spec
+    guards-void-requires
+    word-at-requires
+    occupied-requires
+    put-cluster-requires
+    same-length
+    returns
+    put-empty-requires
+    same-length-2
+    returns-2
+    same-length-3
+    returns-3)

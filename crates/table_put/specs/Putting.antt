@@ -1,0 +1,230 @@
+-- Put by what is around the home: `put-barred`, `put-empty`, `put-unsound`, `put-locked`, `put-inside`. Where the key
+-- goes on to be added beside its cluster: `added-left`, `added-right`, `added-none`, and its way's bounds, `reach`.
+-- `bytes-left`: what is said of the words that put leaves is said of every lent byte.
+-- Assumes nothing.
+use Prim.Native.Nat.{ℕ, suc, _+_, _-_, _*_, _≤_, _<_}
+use mathlib.Core.Path.{_≡_, refl, sym, _∙_, ap}
+use mathlib.Core.Bool.{Bool, true, false, cond}
+use mathlib.Core.List.{List, [], _∷_}
+use native.Mathlib.Omega.{arith}
+use lib.ListN.{length, getD, set}
+use lib.Seq.{length-slice}
+use borrow.Author.Tests.{eq-eqb, ne-eqb}
+use Rattle.rules.specs.declared.Shape.{Shape}
+use Rattle.rules.specs.Lists.{any}
+use Rattle.rules.specs.Word.{Word, isVoid}
+use Rattle.rules.specs.Bytes.{wordsOf}
+use Rattle.rules.specs.Shape.{places, rightGuard}
+use Rattle.rules.specs.Entry.{Entry, precedes}
+use Rattle.rules.specs.Table.{at, occupied, leftGap, rightGap, between, guardsVoid}
+use Rattle.rules.specs.Table.{virginPlaces, deal, entriesBetween, clusterEntries}
+use Rattle.rules.specs.Room.{roomBeside, roomFor}
+use Rattle.rules.specs.Lay.{holds}
+use Rattle.rules.specs.Answer.{Answer, says, refuses, Leaves, leaves}
+use Rattle.rules.specs.Find.{soundAround, lockedAround}
+use Rattle.rules.specs.Put.{enlargedFrom, addAt, Outcome, keeps, writes, addTo, putIn, bytesAfter}
+use Rattle.rules.specs.Phase.{aloneWord, smaller, markOf}
+use Rattle.table_words.specs.Range.{InRange, remainders-high}
+use Rattle.table_words.specs.Split.{InShape}
+use Rattle.table_words.specs.Layout.{same-bytes, bytes-are}
+use Rattle.table_words.specs.declared.place.Place.{Place}
+use Rattle.theory.specs.Gaps as gaps
+use Rattle.theory.specs.Places.{occupied-at}
+use Rattle.theory.specs.Motion.{fillAt, finish}
+use Rattle.theory.specs.Moving.{Addable, add-moves, room-alone, add-alone}
+use Rattle.table_read.specs.declared.read.Read.{Read}
+use Rattle.table_read.specs.Read.{readOf}
+use Rattle.table_cluster.specs.Ends.{leftEnd}
+use Rattle.table_cluster.specs.declared.gaps.End.{End}
+use Rattle.table_find.specs.Around.{Open, open-guards, around-barred, alone-sound, alone-locked, alone-entries}
+use Rattle.table_find.specs.Around.{Inside, cluster-inside}
+use Rattle.table_find.specs.Count.{count-few}
+use Rattle.table_find.specs.Key.{home-place}
+
+-- the answer of an outcome with the words that it leaves
+abbrev pub wordsLeft : List Word → Outcome → Leaves (List Word)
+wordsLeft ws (keeps a) = leaves a ws
+wordsLeft ws (writes a vs) = leaves a vs
+
+pub bytes-left :
+    (bs cs : List ℕ) (n : ℕ) (a : Answer) (o : Outcome) →
+    length bs ≡ 2 * n → length cs ≡ 2 * n → ((i : ℕ) → getD bs i 0 < 256) → ((i : ℕ) → getD cs i 0 < 256) →
+    leaves a (wordsOf cs) ≡ wordsLeft (wordsOf bs) o → leaves a cs ≡ bytesAfter bs o
+bytes-left bs cs n a (keeps b) even-b even-c small-b small-c e =
+    let same : a ≡ b = cc in
+    let words : wordsOf cs ≡ wordsOf bs = cc in
+    rw (same, same-bytes cs bs n even-c even-b small-c small-b words)
+bytes-left bs cs n a (writes b ws) even-b even-c small-b small-c e =
+    let same : a ≡ b = cc in
+    let words : wordsOf cs ≡ ws = cc in
+    rw same (ap (leaves b) (bytes-are cs n ws even-c small-c words))
+
+-- ---- by what is around the home
+
+-- the key is absent from its cluster, and added beside it if there is room
+abbrev pub addBeside : Shape → List Word → Entry → Outcome
+addBeside sh ws e = addTo ws e (roomBeside sh (occupied ws) (e .home))
+
+-- the key is looked for among some entries
+abbrev pub putAmong : Shape → List Word → Entry → List Entry → Outcome
+putAmong sh ws e es = cond (holds e es) (keeps (says 1)) (addBeside sh ws e)
+
+-- the key is put where its home is empty, by the home's word
+abbrev pub putAlone : List Word → Entry → Outcome
+putAlone ws e = writes (says 2) (set ws (e .home) (aloneWord (e .remainder)))
+
+abbrev pub putEmpty : List Word → Entry → Outcome
+putEmpty ws e =
+    cond (isVoid (at ws (e .home)))
+    (cond (at ws (e .home) .lock) (keeps (refuses 7)) (putAlone ws e))
+    (keeps (refuses 6))
+
+addable :
+    {sh : Shape} {ws : List Word} {e : Entry} →
+    InRange sh → InShape sh e → length ws ≡ places sh → Open sh ws (e .home) →
+    holds e (clusterEntries ws (e .home)) ≡ false → Addable sh ws e
+addable {sh} range i size o new =
+    record {
+      low = remainders-high sh range;
+      remainder = i .remainder-low;
+      home = home-place i;
+      size = size;
+      sound = o .sound;
+      free = o .free;
+      new = new;
+    }
+
+module _ (sh : Shape) (ws : List Word) (e : Entry)
+    (range : InRange sh) (i : InShape sh e) (size : length ws ≡ places sh)
+  where
+    pub put-barred : guardsVoid sh ws ≡ false → putIn sh ws e ≡ keeps (refuses 6)
+    unfolding putIn
+    put-barred barred = rw (around-barred sh ws (e .home) barred)
+
+    pub put-unsound : soundAround sh ws (e .home) ≡ false → putIn sh ws e ≡ keeps (refuses 6)
+    unfolding putIn
+    put-unsound s = rw s
+
+    pub put-locked :
+        soundAround sh ws (e .home) ≡ true → lockedAround ws (e .home) ≡ true → putIn sh ws e ≡ keeps (refuses 7)
+    unfolding putIn
+    put-locked s l = rw (s, l)
+
+    pub put-alone : Open sh ws (e .home) → at ws (e .home) .occupied ≡ false → putIn sh ws e ≡ putAlone ws e
+    unfolding putIn roomFor holds any
+    put-alone o empty =
+        let none = alone-entries sh ws (e .home) (open-guards o) size (home-place i) empty in
+        let a = addable range i size o (ap (holds e) none) in
+        rw (o .sound, o .free, none, room-alone a empty, add-alone a empty)
+
+    pub put-empty :
+        guardsVoid sh ws ≡ true → at ws (e .home) .occupied ≡ false → putIn sh ws e ≡ putEmpty ws e
+    put-empty void empty = go (isVoid (at ws (e .home))) (at ws (e .home) .lock) refl refl
+      where
+        sound-is : soundAround sh ws (e .home) ≡ isVoid (at ws (e .home))
+        sound-is = alone-sound sh ws (e .home) void size (home-place i) empty
+
+        locked-is : lockedAround ws (e .home) ≡ at ws (e .home) .lock
+        locked-is = alone-locked sh ws (e .home) void size (home-place i) empty
+
+        go :
+            (v l : Bool) → isVoid (at ws (e .home)) ≡ v → at ws (e .home) .lock ≡ l →
+            putIn sh ws e ≡ cond v (cond l (keeps (refuses 7)) (putAlone ws e)) (keeps (refuses 6))
+        go false l x y = put-unsound (sound-is ∙ x)
+        go true true x y = put-locked (sound-is ∙ x) (locked-is ∙ y)
+        go true false x y = put-alone (record { sound = sound-is ∙ x; free = locked-is ∙ y }) empty
+
+    pub put-inside :
+        Open sh ws (e .home) → at ws (e .home) .occupied ≡ true →
+        putIn sh ws e ≡ putAmong sh ws e (clusterEntries ws (e .home))
+    unfolding putIn roomFor
+    put-inside o full = rw (o .sound, o .free, occupied-at ws (e .home), full)
+
+-- ---- beside the cluster
+
+-- the key is absent from the cluster after the gap l, and the read says where it would stand
+pub record Ready (sh : Shape) (ws : List Word) (e : Entry) (l : Place) (read : Read) : Type 0 where
+  pub addable : Addable sh ws e
+  pub full : at ws (e .home) .occupied ≡ true
+  pub left : l .0 ≡ leftGap (occupied ws) (e .home)
+  pub inside : Inside sh ws (e .home)
+  pub read-is : read ≡ readOf e (clusterEntries ws (e .home))
+
+deal-length : (hs : List ℕ) (ws : List Word) → length (deal hs ws) ≡ length ws
+unfolding deal
+deal-length hs [] = refl
+deal-length hs (w ∷ ws) = ap suc (deal-length _ ws)
+
+-- what is left where the key was brought from the hand to its goal
+abbrev pub broughtTo : List Word → Entry → Read → ℕ → ℕ → List Word
+broughtTo ws e read hand goal = finish (fillAt (e .remainder) ws hand) hand goal (read .mark) (e .home)
+
+module _ {sh : Shape} {ws : List Word} {e : Entry} {l : Place} {read : Read} (g : Ready sh ws e l read) where
+  -- no more keys are smaller than there are
+  pub reach :
+      (suc (l .0) + read .smaller ≤ rightGap (occupied ws) (e .home)) × (rightGap (occupied ws) (e .home) < places sh)
+  unfolding readOf smaller clusterEntries entriesBetween
+  reach =
+      let left = leftGap (occupied ws) (e .home) in
+      let right = rightGap (occupied ws) (e .home) in
+      omega (
+        arith,
+        g .left,
+        g .inside .after,
+        g .inside .before,
+        g .inside .low,
+        ap (λ (a : Read). a .smaller) (g .read-is),
+        count-few (λ (f : Entry). precedes f e) (clusterEntries ws (e .home)),
+        deal-length (virginPlaces (suc left) (between ws left right)) (between ws left right),
+        length-slice (suc left) right ws (omega (arith, g .addable .size, g .inside .low)),
+      )
+
+  -- the theory's law, with the hand at a gap and the enlarged cluster's first place
+  moved :
+      (side : gaps.Side) (p a : ℕ) → p ≡ gaps.gap side (occupied ws) (e .home) → enlargedFrom ws (e .home) p ≡ a →
+      addAt ws e p
+      ≡ finish
+      (fillAt (e .remainder) ws p)
+      p
+      (a + smaller e (clusterEntries ws (e .home)))
+      (markOf e (clusterEntries ws (e .home)))
+      (e .home)
+  moved side p a here from = rw (← from, here) (add-moves (g .addable) (g .full) side)
+
+  pub added-left :
+      (l .0 ≡ 0 → ⊥) → addBeside sh ws e ≡ writes (says 2) (broughtTo ws e read (l .0) (l .0 + read .smaller))
+  unfolding roomBeside enlargedFrom readOf
+  added-left far =
+      rw (← g .left, ne-eqb (l .0) 0 far, g .read-is)
+      (ap (writes (says 2)) (moved gaps.left (l .0) (l .0) (g .left) (omega (arith, g .left))))
+
+  module _ (r : Place) (right : r .0 ≡ rightGap (occupied ws) (e .home)) where
+    pub added-right :
+        l .0 ≡ 0 → (r .0 ≡ rightGuard sh → ⊥) →
+        addBeside sh ws e ≡ writes (says 2) (broughtTo ws e read (r .0) (1 + read .smaller))
+    unfolding roomBeside enlargedFrom readOf
+    added-right near far =
+        rw (← g .left, ← right, eq-eqb (l .0) 0 near, ne-eqb (r .0) (rightGuard sh) far, g .read-is)
+        (ap
+        (writes (says 2))
+        (moved gaps.right (r .0) 1 right (omega (arith, right, g .left, g .inside .after, g .inside .before))))
+
+    pub added-none : l .0 ≡ 0 → r .0 ≡ rightGuard sh → addBeside sh ws e ≡ keeps (refuses 8)
+    unfolding roomBeside
+    added-none near far = rw (← g .left, ← right, eq-eqb (l .0) 0 near, eq-eqb (r .0) (rightGuard sh) far)
+
+-- a read of the cluster that does not find the key makes it ready
+pub ready :
+    (sh : Shape) (ws : List Word) (e : Entry) {l : End} {read : Read} →
+    InRange sh → InShape sh e → length ws ≡ places sh → Open sh ws (e .home) → at ws (e .home) .occupied ≡ true →
+    l ≡ leftEnd ws (e .home) → read ≡ readOf e (clusterEntries ws (e .home)) → read .held ≡ false →
+    Ready sh ws e (l .gap) read
+unfolding readOf leftEnd
+ready sh ws e range i size o full end reads new =
+    record {
+      addable = addable range i size o (sym (ap (λ (a : Read). a .held) reads) ∙ new);
+      full = full;
+      left = ap (λ (a : End). a .gap .0) end;
+      inside = cluster-inside size (home-place i) full o;
+      read-is = reads;
+    }

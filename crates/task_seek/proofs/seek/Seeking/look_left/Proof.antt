@@ -1,0 +1,55 @@
+-- `look_left` meets its contract: the word at left is occupied or not.
+-- Assumes nothing.
+use borrow.Author.Needs.{needs}
+use native.Mathlib.Omega.{arith}
+use Rattle.rules.specs.Phase.{lookLeft}
+use Rattle.rules.specs.Record.{homePlace}
+use Rattle.task_fits.specs.Taken.{tells}
+use Rattle.task_fits.specs.Ready.{left-inside, occupied-positive, home-small}
+use Rattle.task_seek.proofs.seek.Seeking.look_left.Statement.{statement}
+use Rattle.task_seek.proofs.seek.Seeking.look_left.Tie as tie
+
+word-at-requires : tie.Need-word-at-requires
+word-at-requires c κs = left-inside (c .before .before .pre) (omega arith)
+
+occupied-requires : tie.Need-occupied-requires
+occupied-requires c κs = search needs
+
+sub-t8 : tie.Need-sub-t8
+sub-t8 c =
+    let read = c .before .before in
+    occupied-positive (read .before .before .before .before .pre) _
+    (tells (λ w. w .occupied) (read .occupied .ensures) (read .before .word-at .ensures) (c .before .if1 .taken))
+
+returns : tie.Need-returns
+unfolding lookLeft
+returns c =
+    let read = c .before .before in
+    rw (tells (λ w. w .occupied) (read .occupied .ensures) (read .before .word-at .ensures) (c .before .if1 .taken))
+
+home-place-requires : tie.Need-home-place-requires
+home-place-requires c κs = search needs
+
+add-t17 : tie.Need-add-t17
+unfolding homePlace
+add-t17 c = omega (arith, home-small (c .before .before .before .before .before .before .before .pre))
+
+returns-2 : tie.Need-returns-2
+unfolding lookLeft homePlace
+returns-2 c =
+    let read = c .before .before .before in
+    rw (tells (λ w. w .occupied) (read .occupied .ensures) (read .before .word-at .ensures)
+    (c .before .before .if1 .left))
+    (rw (c .before .home-place .ensures))
+
+pub look-left-spec : {M : Type 1} → statement M
+look-left-spec =
+    tie.close
+    (tie.spec
+    word-at-requires
+    occupied-requires
+    sub-t8
+    returns
+    home-place-requires
+    add-t17
+    returns-2)

@@ -1,0 +1,30 @@
+-- `mark` meets its contract: the marks at goal and home.
+-- Assumes nothing.
+use borrow.Author.Needs.{needs}
+use native.Mathlib.Omega.{arith}
+use Rattle.rules.specs.Record.{homePlace}
+use Rattle.rules.specs.Phase.{mark}
+use Rattle.task_fits.specs.Ready.{home-inside, goal-inside, hand-bounds}
+use Rattle.task_settle.proofs.settle.Settling.mark.Statement.{statement}
+use Rattle.task_settle.proofs.settle.Settling.mark.Tie as tie
+
+home-place-requires : tie.Need-home-place-requires
+home-place-requires c κs = search needs
+
+mark-requires : tie.Need-mark-requires
+unfolding homePlace
+mark-requires c κs =
+    let ready = c .before .before .before .before .pre in
+    let bounds = hand-bounds ready (omega arith) (omega arith) in
+    rw (c .home-place .ensures)
+    (goal-inside ready (omega arith) (omega arith), (home-inside ready, λ one. omega (arith, bounds .mark-one one)))
+
+same-length : tie.Need-same-length
+same-length c = search needs
+
+returns : tie.Need-returns
+unfolding mark homePlace
+returns c = rw (c .before .before .mark .ensures, c .before .before .before .home-place .ensures)
+
+pub mark-spec : {M : Type 1} → statement M
+mark-spec = tie.close (tie.spec home-place-requires mark-requires same-length returns)

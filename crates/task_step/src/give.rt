@@ -1,0 +1,50 @@
+// Give on a record by value (01, Tasks and their steps): refusals 1, 2 and 4. The thin call over lent records adds 3.
+use rules::Refusal;
+use rules::Task;
+use rules::Turn;
+use table_words::key::good_key;
+use table_words::shape::good_shape;
+use table_words::shape::shape_of;
+ghost use mathlib.Core.Path.{_≡_};
+ghost use Rattle.rules.specs.Give as spec;
+ghost use Rattle.rules.specs.Give.{giveTo};
+ghost use Rattle.task_step.specs.Given.{turnSays, giveOne};
+
+fn given(key: u32) -> Task
+    ensures { λ t. ⌜ t ≡ spec.given key ⌝ }
+{
+    Task {
+        key: key,
+        phase: 1,
+        left: 0,
+        right: 0,
+        hand: 0,
+        goal: 0,
+        mark: 0,
+        answer: 0,
+    }
+}
+
+fn give_to(t: Task, key: u32) -> Turn
+    ensures { λ turn. ⌜ turnSays t turn ≡ giveTo t key ⌝ }
+{
+    let phase = t.phase;
+    match phase {
+        1..=12 => Turn::Refused(Refusal::Busy),
+        0 | 13..=255 => Turn::Next(given(key)),
+    }
+}
+
+pub fn give(m: u32, r: u32, key: u32, t: Task) -> Turn
+    ensures { λ turn. ⌜ turnSays t turn ≡ giveOne m r key t ⌝ }
+{
+    if good_shape(m, r) {
+        if good_key(shape_of(m, r), key) {
+            give_to(t, key)
+        } else {
+            Turn::Refused(Refusal::BadKey)
+        }
+    } else {
+        Turn::Refused(Refusal::BadShape)
+    }
+}
