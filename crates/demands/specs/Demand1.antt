@@ -18,7 +18,7 @@ use Rattle.rules.specs.Word.{Word}
 use Rattle.rules.specs.Bytes.{wordsOf, bytesOf}
 use Rattle.rules.specs.Shape.{shapeOf, inRange, keys, goodTable}
 use Rattle.rules.specs.Entry.{Entry, split}
-use Rattle.rules.specs.Table.{occupied, clusterEntries, list, guardsVoid, sound, locked}
+use Rattle.rules.specs.Table.{occupiedPlaces, clusterEntries, list, guardsVoid, sound, locked}
 use Rattle.rules.specs.Room.{Room, place, full, roomFor}
 use Rattle.rules.specs.Lay.{holds}
 use Rattle.rules.specs.Answer.{says, refuses, Leaves, leaves}
@@ -64,14 +64,14 @@ put-orderly : (sh : Shape) (ws : List Word) (e : Entry) → Orderly (putIn sh ws
 unfolding putIn
 put-orderly sh ws e =
     one-of
-    (soundAround sh ws (e .home))
+    (soundAround sh ws (e .homePlace))
     (one-of
-    (lockedAround ws (e .home))
+    (lockedAround ws (e .homePlace))
     (refuses-by 7 (omega arith))
     (one-of
-    (holds e (clusterEntries ws (e .home)))
+    (holds e (clusterEntries ws (e .homePlace)))
     (finds 1)
-    (add-orderly ws e (roomFor sh (occupied ws) (e .home)))))
+    (add-orderly ws e (roomFor sh (occupiedPlaces ws) (e .homePlace)))))
     (refuses-by 6 (omega arith))
 
 orderly-settled : (bytes : List ℕ) {o : Outcome} → Orderly o → Settled bytes (bytesAfter bytes o)

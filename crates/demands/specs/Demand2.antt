@@ -12,7 +12,7 @@ use Rattle.rules.specs.Lists.{bitOf}
 use Rattle.rules.specs.Word.{Word}
 use Rattle.rules.specs.Bytes.{wordsOf}
 use Rattle.rules.specs.Shape.{shapeOf, homes, keys, goodTable}
-use Rattle.rules.specs.Table.{occupied, list, sound}
+use Rattle.rules.specs.Table.{occupiedPlaces, list, sound}
 use Rattle.rules.specs.Answer.{says, refuses, leaves}
 use Rattle.rules.specs.Find.{find}
 use Rattle.rules.specs.Put.{put}
@@ -43,7 +43,7 @@ pub no-other-table :
     {m r : ℕ} {bytes others : List ℕ} →
     PlainTable m r bytes →
     PlainTable m r others →
-    occupied (wordsOf bytes) ≡ occupied (wordsOf others) → listOf m r bytes ≡ listOf m r others → bytes ≡ others
+    occupiedPlaces (wordsOf bytes) ≡ occupiedPlaces (wordsOf others) → listOf m r bytes ≡ listOf m r others → bytes ≡ others
 no-other-table t u places-same list-same = proof.one-table t u places-same list-same
 
 -- "Find on a sound unlocked table says present exactly for listed keys."
@@ -61,13 +61,13 @@ module _ {m r : ℕ} {bytes : List ℕ} (t : PlainTable m r bytes) (key : ℕ) (
   -- "says full exactly when the key is absent and every place but the guards is occupied,"
   pub put-full :
       listed key (listOf m r bytes) ≡ false →
-      AllTaken (shapeOf m r) (occupied (wordsOf bytes)) → put m r bytes key ≡ leaves (refuses 8) bytes
+      AllTaken (shapeOf m r) (occupiedPlaces (wordsOf bytes)) → put m r bytes key ≡ leaves (refuses 8) bytes
   put-full absent every = proof.put-full t key lt absent every
 
   -- "and otherwise adds its key alone, at the place the rules name."
   pub put-absent :
       listed key (listOf m r bytes) ≡ false →
-      (AllTaken (shapeOf m r) (occupied (wordsOf bytes)) → ⊥) → Adds m r bytes key
+      (AllTaken (shapeOf m r) (occupiedPlaces (wordsOf bytes)) → ⊥) → Adds m r bytes key
   put-absent absent some = proof.put-adds t key lt absent some
 
 -- from any sound unlocked table, where its keys and those put make at most 2^m distinct keys, putting the same keys

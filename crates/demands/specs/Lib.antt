@@ -2,7 +2,7 @@
 -- their proofs.
 pub mod Demand1
 pub mod Terms
-pub mod Lent
+pub mod Tables
 pub mod Proof2
 pub mod Proof3
 pub mod Demand2

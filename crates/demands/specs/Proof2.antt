@@ -14,7 +14,7 @@ use Rattle.rules.specs.Word.{Word}
 use Rattle.rules.specs.Bytes.{wordsOf, bytesOf}
 use Rattle.rules.specs.Shape.{shapeOf, remainders, keys, places}
 use Rattle.rules.specs.Entry.{Entry, split, join, sameEntry}
-use Rattle.rules.specs.Table.{occupied, entries, list}
+use Rattle.rules.specs.Table.{occupiedPlaces, entries, list}
 use Rattle.rules.specs.Room.{place, roomFor}
 use Rattle.rules.specs.Lay.{holds, insert}
 use Rattle.rules.specs.Answer.{says, refuses, leaves}
@@ -33,10 +33,10 @@ use Rattle.theory.specs.Building.{State, state-unique, place≢full, added-stat
 use Rattle.theory.specs.Adding.{Added}
 use Rattle.theory.specs.Keys.{table-inside, asc-in-shape, keys-ascend, Ascending, listed, listed-holds}
 use Rattle.demands.specs.Terms.{SoundTable, PlainTable, listOf, Adds}
-use Rattle.demands.specs.Lent.{in-range-of, low-of, size-of, table-of, state-of}
-use Rattle.demands.specs.Lent.{words-back, plain-of, entries-back}
+use Rattle.demands.specs.Tables.{in-range-of, low-of, size-of, table-of, state-of}
+use Rattle.demands.specs.Tables.{words-back, plain-of, entries-back}
 
-pub home-of-key : (sh : Shape) (key : ℕ) → key < keys sh → HomePlace sh (split sh key .home)
+pub home-of-key : (sh : Shape) (key : ℕ) → key < keys sh → HomePlace sh (split sh key .homePlace)
 home-of-key sh key lt =
     let i = split-in-shape sh key lt in
     record { first = i .home-low; last = i .home-high }
@@ -92,7 +92,7 @@ pub one-table :
     {m r : ℕ} {bytes others : List ℕ} →
     PlainTable m r bytes →
     PlainTable m r others →
-    occupied (wordsOf bytes) ≡ occupied (wordsOf others) → listOf m r bytes ≡ listOf m r others → bytes ≡ others
+    occupiedPlaces (wordsOf bytes) ≡ occupiedPlaces (wordsOf others) → listOf m r bytes ≡ listOf m r others → bytes ≡ others
 unfolding list
 one-table {m} {r} {bytes} {others} t u places-same list-same =
     same-bytes
@@ -179,7 +179,7 @@ module _ {m r : ℕ} {bytes : List ℕ} (t : PlainTable m r bytes) (key : ℕ) (
 
   pub put-full :
       listed key (listOf m r bytes) ≡ false →
-      AllTaken (shapeOf m r) (occupied (wordsOf bytes)) → put m r bytes key ≡ leaves (refuses 8) bytes
+      AllTaken (shapeOf m r) (occupiedPlaces (wordsOf bytes)) → put m r bytes key ≡ leaves (refuses 8) bytes
   put-full h every = go (putIn (shapeOf m r) (wordsOf bytes) (split (shapeOf m r) key)) refl cases
     where
       go :
@@ -200,7 +200,7 @@ module _ {m r : ℕ} {bytes : List ℕ} (t : PlainTable m r bytes) (key : ℕ) (
 
   added-adds :
       (p : ℕ) →
-      roomFor (shapeOf m r) (occupied (wordsOf bytes)) (split (shapeOf m r) key .home) ≡ place p →
+      roomFor (shapeOf m r) (occupiedPlaces (wordsOf bytes)) (split (shapeOf m r) key .homePlace) ≡ place p →
       Added
       (remainders (shapeOf m r))
       (wordsOf bytes)
@@ -218,7 +218,7 @@ module _ {m r : ℕ} {bytes : List ℕ} (t : PlainTable m r bytes) (key : ℕ) (
         named = room;
         answer = put-by e;
         table = plain;
-        places-after = ap occupied (words-back m r range state) ∙ added .places;
+        places-after = ap occupiedPlaces (words-back m r range state) ∙ added .places;
         listed-after = λ x small.
             listed-here (plain .whole) x small
             ∙ ap (holds (split (shapeOf m r) x)) (entries-back m r range state)
@@ -240,7 +240,7 @@ module _ {m r : ℕ} {bytes : List ℕ} (t : PlainTable m r bytes) (key : ℕ) (
 
   pub put-adds :
       listed key (listOf m r bytes) ≡ false →
-      (AllTaken (shapeOf m r) (occupied (wordsOf bytes)) → ⊥) → Adds m r bytes key
+      (AllTaken (shapeOf m r) (occupiedPlaces (wordsOf bytes)) → ⊥) → Adds m r bytes key
   put-adds h some = go (putIn (shapeOf m r) (wordsOf bytes) (split (shapeOf m r) key)) refl cases
     where
       go :
@@ -253,6 +253,6 @@ module _ {m r : ℕ} {bytes : List ℕ} (t : PlainTable m r bytes) (key : ℕ) (
           absurd
           (some
           (room-full
-          (split (shapeOf m r) key .home)
+          (split (shapeOf m r) key .homePlace)
           (table-guarded (shapeOf m r) (size-of (t .whole)) (table-of (t .whole)))
           room))

@@ -32,8 +32,8 @@ use Rattle.theory.specs.Putting.{Puts, found, inserted, overflow}
 use Rattle.theory.specs.Building.{Roomy, State, Inside, after-put, added-state, puts-ascend, Left, puts-state}
 use Rattle.theory.specs.Keys.{table-inside, within-in-shape, Ascending, ascending-none, ascending-next, listed}
 use Rattle.demands.specs.Terms.{PlainTable, listOf, InKeys, entriesOf, distinct, putAll, left-by, Builds}
-use Rattle.demands.specs.Lent.{in-range-of, low-of, state-of}
-use Rattle.demands.specs.Lent.{words-back, plain-of, entries-back}
+use Rattle.demands.specs.Tables.{in-range-of, low-of, state-of}
+use Rattle.demands.specs.Tables.{words-back, plain-of, entries-back}
 use Rattle.demands.specs.Proof2.{split-keys, same-split, in-shape, ascending-list, listed-here, cases, put-by}
 
 -- ---- the table that is all zero

@@ -13,7 +13,7 @@ use Rattle.rules.specs.Lists.{all}
 use Rattle.rules.specs.Bytes.{wordsOf}
 use Rattle.rules.specs.Shape.{shapeOf, keys, goodTable}
 use Rattle.rules.specs.Entry.{Entry, split, join}
-use Rattle.rules.specs.Table.{occupied, list, sound, locked}
+use Rattle.rules.specs.Table.{occupiedPlaces, list, sound, locked}
 use Rattle.rules.specs.Room.{place, roomFor}
 use Rattle.rules.specs.Lay.{ascend}
 use Rattle.rules.specs.Answer.{says, Leaves, leaves}
@@ -60,10 +60,10 @@ putAll m r bytes (key ∷ ks) = putAll m r (left-by (put m r bytes key)) ks
 pub record Adds (m r : ℕ) (bytes : List ℕ) (key : ℕ) : Type 0 where
   pub after : List ℕ
   pub filled : ℕ
-  pub named : roomFor (shapeOf m r) (occupied (wordsOf bytes)) (split (shapeOf m r) key .home) ≡ place filled
+  pub named : roomFor (shapeOf m r) (occupiedPlaces (wordsOf bytes)) (split (shapeOf m r) key .homePlace) ≡ place filled
   pub answer : put m r bytes key ≡ leaves (says 2) after
   pub table : PlainTable m r after
-  pub places-after : occupied (wordsOf after) ≡ set (occupied (wordsOf bytes)) filled true
+  pub places-after : occupiedPlaces (wordsOf after) ≡ set (occupiedPlaces (wordsOf bytes)) filled true
   pub listed-after :
       (x : ℕ) → x < keys (shapeOf m r) → listed x (listOf m r after) ≡ (eqb x key || listed x (listOf m r bytes))
 

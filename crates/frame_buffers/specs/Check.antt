@@ -15,7 +15,7 @@ use Rattle.rules.specs.Record.{within}
 use Rattle.frame_rules.specs.declared.Run.{Run}
 use Rattle.frame_rules.specs.declared.Stage.{Stage}
 use Rattle.frame_rules.specs.declared.Stage.the-variants.{Among}
-use Rattle.frame_rules.specs.Feed.{Lent, ifAmong, refusal}
+use Rattle.frame_rules.specs.Feed.{Buffers, ifAmong, refusal}
 
 unfoldable pub refusalBy : Run → ℕ → ℕ → ℕ → ℕ
 refusalBy run line table out =
@@ -26,7 +26,7 @@ refusalBy run line table out =
     1
 
 pub refusal-by :
-    (run : Run) (b : Lent) → refusalBy run (length (b .line)) (length (b .table)) (length (b .out)) ≡ refusal run b
+    (run : Run) (b : Buffers) → refusalBy run (length (b .line)) (length (b .table)) (length (b .out)) ≡ refusal run b
 unfolding refusalBy refusal
 refusal-by run b = refl
 

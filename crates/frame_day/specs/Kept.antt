@@ -24,7 +24,7 @@ use Rattle.theory.specs.Dealt.{or-left, or-right}
 use Rattle.theory.specs.Joined.{map-append}
 use Rattle.theory.specs.Keys.{listed}
 use Rattle.demands.specs.Terms.{PlainTable, InKeys, listOf, distinct, left-by, putAll}
-use Rattle.demands.specs.Lent.{low-of}
+use Rattle.demands.specs.Tables.{low-of}
 use Rattle.demands.specs.Proof2.{ascending-list}
 use Rattle.demands.specs.Proof3.{all-both, ascending-keys}
 use Rattle.demands.specs.Demand2.{build-puts, build-any-order}

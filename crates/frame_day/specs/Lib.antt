@@ -2,7 +2,7 @@
 -- Counting to Moments: rounds are a course. Line and Room: one line. Zero to Printing: a whole day.
 pub mod Terms
 pub mod Counting
-pub mod Beside
+pub mod Tally
 pub mod Moments
 pub mod Line
 pub mod Room

@@ -33,7 +33,7 @@ use Rattle.together.specs.Course.{walk}
 use Rattle.together.specs.History.{heard, rest-phase}
 use Rattle.together.specs.Fair.{Fair, fair-begin, fair-course}
 use Rattle.frame_day.specs.Terms.{Follows}
-use Rattle.frame_day.specs.Beside.{Beside, beside-start, took, beside-take, stepped, beside-step}
+use Rattle.frame_day.specs.Tally.{Tally, beside-start, took, beside-take, stepped, beside-step}
 
 -- ---- courses and what they start from
 course-append :
@@ -58,7 +58,7 @@ record Moment (m r n : ℕ) (bytes ks : List ℕ) (f : Floor) : Type 0 where
   said : List Said
   reached : course m r (begin bytes (replicate n noTask)) actions ≡ world f accepted said
   crew : length (f .tasks) ≡ n
-  beside : Beside ks f accepted said
+  beside : Tally ks f accepted said
 
 -- what a moment says of its course alone
 moment-follows :
@@ -70,7 +70,7 @@ moment-follows {m} {r} {n} {bytes} {ks} {f} now =
       same-tasks = ap (λ (w : World). w .tasks) (now .reached);
       as-many = now .beside .as-many;
       same-keys = λ p. ap (λ (w : World). count p (w .given)) (now .reached) ∙ now .beside .accepts p;
-      same-answers = λ p. ap (λ (w : World). count p (w .said)) (now .reached) ∙ sym (now .beside .says p);
+      same-answers = λ p. ap (λ (w : World). count p (w .said)) (now .reached) ∙ sym (now .beside .answered-so p);
     }
 
 -- ---- one task's give and step
@@ -253,9 +253,9 @@ module _ {m r : ℕ} {bytes : List ℕ} (n : ℕ) (ks : List ℕ) (t : PlainTabl
                 record {
                   table = bytesOf (walked .words);
                   tasks = set (f .tasks) i next;
-                  holds = f .holds;
+                  serving = f .serving;
                   taken = f .taken;
-                  answers = cond (eqb (u .phase) 13) (set (f .answers) (getD (f .holds) i 0) (u .answer)) (f .answers);
+                  answers = cond (eqb (u .phase) 13) (set (f .answers) (getD (f .serving) i 0) (u .answer)) (f .answers);
                 }
 
       -- ---- a turn

@@ -23,7 +23,7 @@ use Rattle.theory.specs.Dealt.{and-left, and-right, and-both, or-left, or-right
 use Rattle.theory.specs.Keys.{listed}
 use Rattle.theory.specs.Building.{subset-length}
 use Rattle.demands.specs.Terms.{PlainTable, InKeys, entriesOf, listOf, distinct, putAll}
-use Rattle.demands.specs.Lent.{low-of}
+use Rattle.demands.specs.Tables.{low-of}
 use Rattle.demands.specs.Proof2.{ascending-list}
 use Rattle.demands.specs.Proof3.{listed-split, held-key, all-within, all-both, ascending-keys}
 use Rattle.frame_rules.specs.Rounds.{Floor, allAnswered}

@@ -15,10 +15,10 @@ use Rattle.rules.specs.declared.Refusal.{Refusal}
 use Rattle.rules.specs.Answer.{doneSays, numberOfRefusal}
 use Rattle.frame_rules.specs.declared.Run.{Run}
 use Rattle.frame_rules.specs.Frame.{lineIn}
-use Rattle.frame_rules.specs.Feed.{Lent, lent, withHeld, dayOf, refusal, lineLength, heldAfter, lineAfter, heldLine}
-use Rattle.frame_rules.specs.Feed.{Feeding, feeds, refused, closes, holds, feedGood, feed}
+use Rattle.frame_rules.specs.Feed.{Buffers, lentBuffers, withHeld, dayOf, refusal, lineLength, heldAfter, lineAfter, heldLine}
+use Rattle.frame_rules.specs.Feed.{Feeding, feeds, refused, closes, heldOrClosed, feedGood, feed}
 use Rattle.frame_reader.specs.Line.{line-inside, end-met, line-is}
-use Rattle.frame_pieces.specs.Feeding.{Ready, accepted, not-refused}
+use Rattle.frame_pieces.specs.Feeding.{InOrder, accepted, not-refused}
 use Rattle.frame_run.specs.declared.close.Closed.{Closed}
 use Rattle.frame_buffers.specs.Check.{refusalBy, refusal-by, some-number}
 use Rattle.frame_buffers.specs.Hold.{Holding, holding}
@@ -76,52 +76,52 @@ module _ (piece : List ℕ) (at from end : ℕ) (inside : from ≡ min at (lengt
             (λ (n : ℕ). holding (heldAfter (run .held) n) (lineAfter line (run .held) (take more rest)))
             (length-take-le more rest (line-inside rest))
 
-        rest-good : feedGood run rest at (lent line table out) ≡ feedGood run (drop at piece) at (lent line table out)
-        rest-good = ap (λ (r : List ℕ). feedGood run r at (lent line table out)) same-rest
+        rest-good : feedGood run rest at (lentBuffers line table out) ≡ feedGood run (drop at piece) at (lentBuffers line table out)
+        rest-good = ap (λ (r : List ℕ). feedGood run r at (lentBuffers line table out)) same-rest
 
         -- a line feed was met: the line is closed, and the point stands after the line feed
         pub fed-line :
             end < length piece → (c : Closed) (table′ out′ : List ℕ) →
             closed c table′ out′ ≡ closing (lineIn (dayOf run table) (heldLine held after)) out →
-            feeds (c .run) (at + (end - from) + 1) (c .wrote) (lent after table′ out′)
-            ≡ feedGood run (drop at piece) at (lent line table out)
-        unfolding feedGood holds
+            feeds (c .run) (at + (end - from) + 1) (c .wrote) (lentBuffers after table′ out′)
+            ≡ feedGood run (drop at piece) at (lentBuffers line table out)
+        unfolding feedGood heldOrClosed
         fed-line met c table′ out′ e =
             let point : at + (end - from) + 1 ≡ suc (at + more) = omega arith in
             let feed-met : ltb more (length rest) ≡ true =
             end-met piece from end ends ∙ lt-ltb end (length piece) met in
             ap
-            (λ (x : Closing). feeds (x .run) (at + (end - from) + 1) (x .wrote) (lent after (x .table) (x .out)))
+            (λ (x : Closing). feeds (x .run) (at + (end - from) + 1) (x .wrote) (lentBuffers after (x .table) (x .out)))
             e
             ∙ ap
-            (λ (p : ℕ). closes p (lent after table out) (lineIn (dayOf run table) (heldLine held after)))
+            (λ (p : ℕ). closes p (lentBuffers after table out) (lineIn (dayOf run table) (heldLine held after)))
             point
             ∙ ap
             (λ (x : Holding). closes
             (suc (at + more))
-            (lent (x .line) table out)
+            (lentBuffers (x .line) table out)
             (lineIn (dayOf run table) (heldLine (x .held) (x .line))))
             kept-is
             ∙ ap
-            (λ (m : Bool). holds run (at + more) (kept .held) m (lent (kept .line) table out))
+            (λ (m : Bool). heldOrClosed run (at + more) (kept .held) m (lentBuffers (kept .line) table out))
             (sym feed-met)
             ∙ rest-good
 
         -- none was met: the line goes on
         pub fed-on :
             length piece ≤ end → (next : Run) → next ≡ withHeld run held →
-            feeds next (at + (end - from)) 0 (lent after table out)
-            ≡ feedGood run (drop at piece) at (lent line table out)
-        unfolding feedGood holds
+            feeds next (at + (end - from)) 0 (lentBuffers after table out)
+            ≡ feedGood run (drop at piece) at (lentBuffers line table out)
+        unfolding feedGood heldOrClosed
         fed-on unmet next e =
             let point : at + (end - from) ≡ at + more = omega arith in
             let feed-met : ltb more (length rest) ≡ false =
             end-met piece from end ends ∙ le-ltb end (length piece) unmet in
-            ap (λ (x : Run). feeds x (at + (end - from)) 0 (lent after table out)) e
-            ∙ ap (λ (p : ℕ). feeds (withHeld run held) p 0 (lent after table out)) point
-            ∙ ap (λ (x : Holding). feeds (withHeld run (x .held)) (at + more) 0 (lent (x .line) table out)) kept-is
+            ap (λ (x : Run). feeds x (at + (end - from)) 0 (lentBuffers after table out)) e
+            ∙ ap (λ (p : ℕ). feeds (withHeld run held) p 0 (lentBuffers after table out)) point
+            ∙ ap (λ (x : Holding). feeds (withHeld run (x .held)) (at + more) 0 (lentBuffers (x .line) table out)) kept-is
             ∙ ap
-            (λ (m : Bool). holds run (at + more) (kept .held) m (lent (kept .line) table out))
+            (λ (m : Bool). heldOrClosed run (at + more) (kept .held) m (lentBuffers (kept .line) table out))
             (sym feed-met)
             ∙ rest-good
 
@@ -129,13 +129,13 @@ module _ (piece : List ℕ) (at from end : ℕ) (inside : from ≡ min at (lengt
 module _ (run : Run) (line table out : List ℕ) (d : Done)
     (check : doneSays d .number ≡ refusalBy run (length line) (length table) (length out))
   where
-    abbrev b : Lent
-    b = lent line table out
+    abbrev b : Buffers
+    b = lentBuffers line table out
 
     number : refusal run b ≡ doneSays d .number
     number = sym (check ∙ refusal-by run b)
 
-    pub feed-ready : d ≡ Accepted → Ready run b
+    pub feed-ready : d ≡ Accepted → InOrder run b
     feed-ready e = accepted run b (number ∙ ap (λ (x : Done). doneSays x .number) e)
 
     pub feed-accepted :

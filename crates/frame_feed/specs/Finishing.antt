@@ -17,11 +17,11 @@ use Rattle.rules.specs.declared.Done.the-variants as done
 use Rattle.rules.specs.Answer.{numberOfRefusal, doneSays}
 use Rattle.frame_rules.specs.declared.Run.{Run}
 use Rattle.frame_rules.specs.Frame.{Day, After, lineIn, atEnd}
-use Rattle.frame_rules.specs.Feed.{Lent, lent, dayOf, heldLine, atFront, refusal}
+use Rattle.frame_rules.specs.Feed.{Buffers, lentBuffers, dayOf, heldLine, atFront, refusal}
 use Rattle.frame_rules.specs.Feed.{Finishing, finishes, refusedToo, lastLine, finishGood, finish}
 use Rattle.frame_pieces.specs.Limits.{Fit}
 use Rattle.frame_pieces.specs.Feeding as feeding
-use Rattle.frame_pieces.specs.Feeding.{Ready, accepted, run-day, last-fits, last-line-prints}
+use Rattle.frame_pieces.specs.Feeding.{InOrder, accepted, run-day, last-fits, last-line-prints}
 use Rattle.frame_run.specs.declared.close.Closed.{Closed}
 use Rattle.frame_buffers.specs.Check.{refusalBy, refusal-by, some-number}
 use Rattle.frame_run.specs.Closing.{Shown, shown, printing, Closing, closed, closing, lastClosing}
@@ -29,12 +29,12 @@ use Rattle.frame_run.specs.Closing.{Shown, shown, printing, Closing, closed, cl
 -- ---- a last line that lacks its line feed
 pub last-none :
     (run : Run) (line table out : List ℕ) → run .held ≡ 0 →
-    closed (record { run = run; wrote = 0 }) table out ≡ lastClosing run (lent line table out)
+    closed (record { run = run; wrote = 0 }) table out ≡ lastClosing run (lentBuffers line table out)
 unfolding lastClosing
 last-none run line table out none = rw (eq-eqb (run .held) 0 none)
 
 pub last-held :
-    (run : Run) (b : Lent) (c : Closed) (table out : List ℕ) → (run .held ≡ 0 → ⊥) →
+    (run : Run) (b : Buffers) (c : Closed) (table out : List ℕ) → (run .held ≡ 0 → ⊥) →
     closed c table out ≡ closing (lineIn (dayOf run (b .table)) (heldLine (run .held) (b .line))) (b .out) →
     closed c table out ≡ lastClosing run b
 unfolding lastClosing
@@ -74,7 +74,7 @@ two-texts a t out n long =
         omega (arith, length-append a (drop n out)) in
         ap (λ (k : ℕ). drop k (drop n out)) size ∙ drop-length (drop n out)
 
-module _ (run : Run) (b : Lent) (ok : Ready run b) where
+module _ (run : Run) (b : Buffers) (ok : InOrder run b) where
   abbrev day : Day
   day = dayOf run (b .table)
 
@@ -136,7 +136,7 @@ module _ (run : Run) (b : Lent) (ok : Ready run b) where
         (more : ℕ) (part : List ℕ) →
         shown more part
         ≡ printing (atEnd (dayOf (c .run) table)) (take (length out - c .wrote) (drop (c .wrote) out)) →
-        finishes (c .wrote + more) (lent (b .line) table (putMid (c .wrote) (length out - c .wrote) out part))
+        finishes (c .wrote + more) (lentBuffers (b .line) table (putMid (c .wrote) (length out - c .wrote) out part))
         ≡ finishGood b (lastLine run b)
     unfolding finishGood
     finish-both more part end =
@@ -158,8 +158,8 @@ module _ (run : Run) (b : Lent) (ok : Ready run b) where
 module _ (run : Run) (line table out : List ℕ) (d : Done)
     (tested : doneSays d .number ≡ refusalBy run (length line) (length table) (length out))
   where
-    abbrev buffers : Lent
-    buffers = lent line table out
+    abbrev buffers : Buffers
+    buffers = lentBuffers line table out
 
     test-is : refusal run buffers ≡ doneSays d .number
     test-is = sym (refusal-by run buffers) ∙ sym tested
@@ -167,7 +167,7 @@ module _ (run : Run) (line table out : List ℕ) (d : Done)
     not-refused : d ≡ done.Accepted → refusal run buffers ≡ 0
     not-refused e = test-is ∙ ap (λ (x : Done). doneSays x .number) e
 
-    pub call-ready : d ≡ done.Accepted → Ready run buffers
+    pub call-ready : d ≡ done.Accepted → InOrder run buffers
     call-ready e = accepted run buffers (not-refused e)
 
     pub call-accepted :

@@ -11,8 +11,8 @@ ghost use mathlib.Core.Path.{_≡_};
 ghost use Prim.Native.Nat.{min};
 ghost use lib.ListN.{drop};
 ghost use Rattle.frame_rules.specs.Frame.{atFirst};
-ghost use Rattle.frame_rules.specs.Feed.{lent, runOf, withHeld, fedSays, feedGood, feed as spec-feed};
-ghost use Rattle.frame_pieces.specs.Feeding.{Ready};
+ghost use Rattle.frame_rules.specs.Feed.{lentBuffers, runOf, withHeld, fedSays, feedGood, feed as spec-feed};
+ghost use Rattle.frame_pieces.specs.Feeding.{InOrder};
 
 // A run at its first line, with nothing held. The table that is lent to it starts as 32,772 zero bytes.
 pub fn begin() -> Run
@@ -57,10 +57,10 @@ fn feed_good(
     table: &mut [u8],
     out: &mut [u8],
 ) -> FeedAnswer
-    requires { ⌜ Ready run (lent (now line) (now table) (now out)) ⌝ }
-    ensures { λ a. ⌜ fedSays a (lent (now (line .exit)) (now (table .exit)) (now (out .exit)))
+    requires { ⌜ InOrder run (lentBuffers (now line) (now table) (now out)) ⌝ }
+    ensures { λ a. ⌜ fedSays a (lentBuffers (now (line .exit)) (now (table .exit)) (now (out .exit)))
         ≡ feedGood run (drop at (now (piece .entry))) at
-        (lent (now (line .entry)) (now (table .entry)) (now (out .entry))) ⌝ }
+        (lentBuffers (now (line .entry)) (now (table .entry)) (now (out .entry))) ⌝ }
 {
     let from = inside(at, piece.len());
     let end = next_line(piece, from);
@@ -81,9 +81,9 @@ pub fn feed(
     table: &mut [u8],
     out: &mut [u8],
 ) -> FeedAnswer
-    ensures { λ a. ⌜ fedSays a (lent (now (line .exit)) (now (table .exit)) (now (out .exit)))
+    ensures { λ a. ⌜ fedSays a (lentBuffers (now (line .exit)) (now (table .exit)) (now (out .exit)))
         ≡ spec-feed run (now (piece .entry)) at
-        (lent (now (line .entry)) (now (table .entry)) (now (out .entry))) ⌝ }
+        (lentBuffers (now (line .entry)) (now (table .entry)) (now (out .entry))) ⌝ }
 {
     let fine = check(run, line.len(), table.len(), out.len());
     match fine {

@@ -7,15 +7,15 @@ use frame_run::close::close;
 use frame_run::close::end;
 use rules::Done;
 ghost use mathlib.Core.Path.{_≡_};
-ghost use Rattle.frame_rules.specs.Feed.{lent, lastLine, finishSays, finishGood, finish as spec-finish};
-ghost use Rattle.frame_pieces.specs.Feeding.{Ready};
+ghost use Rattle.frame_rules.specs.Feed.{lentBuffers, lastLine, finishSays, finishGood, finish as spec-finish};
+ghost use Rattle.frame_pieces.specs.Feeding.{InOrder};
 ghost use Rattle.frame_run.specs.Closing.{closed, lastClosing};
 
 // A line that is begun is a line.
 fn last_line(run: Run, line: &[u8], table: &mut [u8], out: &mut [u8]) -> Closed
-    requires { ⌜ Ready run (lent (now line) (now table) (now out)) ⌝ }
+    requires { ⌜ InOrder run (lentBuffers (now line) (now table) (now out)) ⌝ }
     ensures { λ c. ⌜ closed c (now (table .exit)) (now (out .exit))
-        ≡ lastClosing run (lent (now (line .entry)) (now (table .entry)) (now (out .entry))) ⌝ }
+        ≡ lastClosing run (lentBuffers (now (line .entry)) (now (table .entry)) (now (out .entry))) ⌝ }
 {
     if run.held == 0 {
         Closed { run: run, wrote: 0 }
@@ -25,10 +25,10 @@ fn last_line(run: Run, line: &[u8], table: &mut [u8], out: &mut [u8]) -> Closed
 }
 
 fn finish_good(run: Run, line: &[u8], table: &mut [u8], out: &mut [u8]) -> FinishAnswer
-    requires { ⌜ Ready run (lent (now line) (now table) (now out)) ⌝ }
-    ensures { λ a. ⌜ finishSays a (lent (now (line .entry)) (now (table .exit)) (now (out .exit)))
-        ≡ finishGood (lent (now (line .entry)) (now (table .entry)) (now (out .entry)))
-        (lastLine run (lent (now (line .entry)) (now (table .entry)) (now (out .entry)))) ⌝ }
+    requires { ⌜ InOrder run (lentBuffers (now line) (now table) (now out)) ⌝ }
+    ensures { λ a. ⌜ finishSays a (lentBuffers (now (line .entry)) (now (table .exit)) (now (out .exit)))
+        ≡ finishGood (lentBuffers (now (line .entry)) (now (table .entry)) (now (out .entry)))
+        (lastLine run (lentBuffers (now (line .entry)) (now (table .entry)) (now (out .entry)))) ⌝ }
 {
     let c = last_line(run, line, table, out);
     let n = c.wrote;
@@ -37,8 +37,8 @@ fn finish_good(run: Run, line: &[u8], table: &mut [u8], out: &mut [u8]) -> Finis
 }
 
 pub fn finish(run: Run, line: &[u8], table: &mut [u8], out: &mut [u8]) -> FinishAnswer
-    ensures { λ a. ⌜ finishSays a (lent (now (line .entry)) (now (table .exit)) (now (out .exit)))
-        ≡ spec-finish run (lent (now (line .entry)) (now (table .entry)) (now (out .entry))) ⌝ }
+    ensures { λ a. ⌜ finishSays a (lentBuffers (now (line .entry)) (now (table .exit)) (now (out .exit)))
+        ≡ spec-finish run (lentBuffers (now (line .entry)) (now (table .entry)) (now (out .entry))) ⌝ }
 {
     let fine = check(run, line.len(), table.len(), out.len());
     match fine {

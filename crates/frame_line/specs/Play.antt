@@ -21,7 +21,7 @@ use Rattle.frame_rounds.specs.Desk.{floorOf, answeredAt, answered-floor}
 
 -- sixteen idle tasks, and no key taken
 abbrev pub idleDesk : Desk
-idleDesk = record { tasks = replicate 16 noTask; holds = replicate 16 0; taken = 0 }
+idleDesk = record { tasks = replicate 16 noTask; serving = replicate 16 0; taken = 0 }
 
 -- whether all is answered, with the table and the answers as they are left
 pub record Ran : Type 0 where

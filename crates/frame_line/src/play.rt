@@ -42,10 +42,10 @@ fn idle_desk() -> Desk
         answer: 0,
     };
     let tasks = [idle; 16];
-    let holds = [0usize; 16];
+    let serving = [0usize; 16];
     Desk {
         tasks: tasks,
-        holds: holds,
+        serving: serving,
         taken: 0,
     }
 }

@@ -17,25 +17,25 @@ use Rattle.frame_rules.specs.declared.Stage.the-variants.{AtFirst, Among, Ended
 use Rattle.frame_rules.specs.Lines.{First, inLimits}
 use Rattle.frame_rules.specs.Frame as frame
 use Rattle.frame_rules.specs.Frame.{atFirst, among, ended, Day, After, lineIn, atEnd}
-use Rattle.frame_rules.specs.Feed.{Lent, lent, firstIn, stageOf, dayOf, runOf, withHeld, ifAmong, refusal, lineLength}
-use Rattle.frame_rules.specs.Feed.{heldAfter, lineAfter, heldLine, atFront, Feeding, feeds, holds, feedGood, feed}
+use Rattle.frame_rules.specs.Feed.{Buffers, lentBuffers, firstIn, stageOf, dayOf, runOf, withHeld, ifAmong, refusal, lineLength}
+use Rattle.frame_rules.specs.Feed.{heldAfter, lineAfter, heldLine, atFront, Feeding, feeds, heldOrClosed, feedGood, feed}
 use Rattle.frame_rules.specs.Feed.{finishes, lastLine, finishGood, finish}
 use Rattle.frame_pieces.specs.Limits.{inStage, Fit, line-fits, line-prints, end-prints}
 use Rattle.frame_pieces.specs.Reading.{fromHere, line-length-le, goes-on, line-ends, nothing-left, rest-is-line}
 use Rattle.frame_pieces.specs.Held.{Held, whole, tooLong, none-held, line-length, held-more, held-line}
 
 -- the day of a run and its buffers
-abbrev pub today : Run → Lent → Day
+abbrev pub today : Run → Buffers → Day
 today run b = dayOf run (b .table)
 
 -- nothing is refused: the day is fit, and there is room
-pub record Ready (run : Run) (b : Lent) : Type 0 where
+pub record InOrder (run : Run) (b : Buffers) : Type 0 where
   pub day : Fit (today run b)
   pub line : 4096 ≤ length (b .line)
   pub out : 66570 ≤ length (b .out)
 
-pub record Stands (l : List ℕ) (run : Run) (b : Lent) : Type 0 where
-  pub ready : Ready run b
+pub record Stands (l : List ℕ) (run : Run) (b : Buffers) : Type 0 where
+  pub ready : InOrder run b
   pub held : Held l (run .held) (b .line)
 
 -- ---- no refusal
@@ -52,7 +52,7 @@ tests Among f i =
 tests Ended f i = record { shape = refl; tasks = refl }
 
 -- nothing is refused where all is ready, and only there
-pub not-refused : (run : Run) (b : Lent) → Ready run b → refusal run b ≡ 0
+pub not-refused : (run : Run) (b : Buffers) → InOrder run b → refusal run b ≡ 0
 unfolding refusal dayOf
 not-refused run b ok =
     let t = tests (run .stage) (firstIn run) (ok .day .stage) in
@@ -78,7 +78,7 @@ passed true true false e = absurd (omega arith)
 passed true false nine e = absurd (omega arith)
 passed false three nine e = absurd (omega arith)
 
-pub accepted : (run : Run) (b : Lent) → refusal run b ≡ 0 → Ready run b
+pub accepted : (run : Run) (b : Buffers) → refusal run b ≡ 0 → InOrder run b
 unfolding refusal dayOf
 accepted run b e =
     let shape = ifAmong (run .stage) (within 1 14 (run .m) && within 1 12 (run .r)) in
@@ -102,11 +102,11 @@ accepted run b e =
 -- ---- one feed
 -- what it leaves, of the bytes `rest` from the point `at` on: the run and the buffers that follow, the point reached,
 -- how many bytes were taken on the way there, and the line that is then begun
-pub record Fed (l : List ℕ) (run : Run) (rest : List ℕ) (at : ℕ) (b : Lent) (x : Feeding) : Type 0 where
+pub record Fed (l : List ℕ) (run : Run) (rest : List ℕ) (at : ℕ) (b : Buffers) (x : Feeding) : Type 0 where
   pub run′ : Run
   pub point : ℕ
   pub wrote : ℕ
-  pub b′ : Lent
+  pub b′ : Buffers
   pub eaten : ℕ
   pub l′ : List ℕ
   pub is : x ≡ feeds run′ point wrote b′
@@ -138,7 +138,7 @@ room-kept text out =
     let b = length-drop (length text) out in
     omega arith
 
-module _ (l : List ℕ) (run : Run) (rest : List ℕ) (at : ℕ) (b : Lent) (s : Stands l run b) where
+module _ (l : List ℕ) (run : Run) (rest : List ℕ) (at : ℕ) (b : Buffers) (s : Stands l run b) where
   -- the line's bytes in the rest, and the buffer with them
   abbrev seg : List ℕ
   seg = take (lineLength rest) rest
@@ -164,8 +164,8 @@ module _ (l : List ℕ) (run : Run) (rest : List ℕ) (at : ℕ) (b : Lent) (s :
   abbrev made : After
   made = lineIn (today run b) (heldLine held line)
 
-  abbrev closed : Lent
-  closed = lent line (made .day .table) (atFront (made .prints) (b .out))
+  abbrev closed : Buffers
+  closed = lentBuffers line (made .day .table) (atFront (made .prints) (b .out))
 
   next-day : today (runOf (made .day .stage)) closed ≡ made .day
   next-day = run-day (made .day)
@@ -198,8 +198,8 @@ module _ (l : List ℕ) (run : Run) (rest : List ℕ) (at : ℕ) (b : Lent) (s :
 
   met :
       lineLength rest < length rest →
-      Fed l run rest at b (holds run (at + lineLength rest) held true (lent line (b .table) (b .out)))
-  unfolding holds
+      Fed l run rest at b (heldOrClosed run (at + lineLength rest) held true (lentBuffers line (b .table) (b .out)))
+  unfolding heldOrClosed
   met h =
       record {
         run′ = runOf (made .day .stage);
@@ -218,14 +218,14 @@ module _ (l : List ℕ) (run : Run) (rest : List ℕ) (at : ℕ) (b : Lent) (s :
   -- none is met: the line goes on
   unmet :
       length rest ≤ lineLength rest →
-      Fed l run rest at b (holds run (at + lineLength rest) held false (lent line (b .table) (b .out)))
-  unfolding holds dayOf
+      Fed l run rest at b (heldOrClosed run (at + lineLength rest) held false (lentBuffers line (b .table) (b .out)))
+  unfolding heldOrClosed dayOf
   unmet h =
       record {
         run′ = withHeld run held;
         point = at + lineLength rest;
         wrote = 0;
-        b′ = lent line (b .table) (b .out);
+        b′ = lentBuffers line (b .table) (b .out);
         eaten = lineLength rest;
         l′ = l ++ seg;
         is = refl;
@@ -244,19 +244,19 @@ module _ (l : List ℕ) (run : Run) (rest : List ℕ) (at : ℕ) (b : Lent) (s :
     where
       go :
           (feed : Bool) → ltb (lineLength rest) (length rest) ≡ feed →
-          Fed l run rest at b (holds run (at + lineLength rest) held feed (lent line (b .table) (b .out)))
+          Fed l run rest at b (heldOrClosed run (at + lineLength rest) held feed (lentBuffers line (b .table) (b .out)))
       go true e = met (ltb-true (lineLength rest) (length rest) e)
       go false e = unmet (ltb-false (lineLength rest) (length rest) e)
 
 pub feed-prints :
-    (l : List ℕ) (run : Run) (piece : List ℕ) (at : ℕ) (b : Lent) → Stands l run b →
+    (l : List ℕ) (run : Run) (piece : List ℕ) (at : ℕ) (b : Buffers) → Stands l run b →
     Fed l run (drop at piece) at b (feed run piece at b)
 unfolding feed
 feed-prints l run piece at b s = rw (not-refused run b (s .ready)) (fed-good l run (drop at piece) at b s)
 
 -- ---- the end
 -- what a last line that lacks its line feed makes of the day, and what is printed then: it fits the room for it
-pub last-fits : (run : Run) (b : Lent) → Ready run b → Fit (lastLine run b .day)
+pub last-fits : (run : Run) (b : Buffers) → InOrder run b → Fit (lastLine run b .day)
 unfolding lastLine
 last-fits run b ok = go (eqb (run .held) 0)
   where
@@ -269,7 +269,7 @@ last-fits run b ok = go (eqb (run .held) 0)
     go true = ok .day
     go false = line-fits (today run b) (heldLine (run .held) (b .line)) (ok .day)
 
-pub last-line-prints : (run : Run) (b : Lent) → length (lastLine run b .prints) ≤ 1025
+pub last-line-prints : (run : Run) (b : Buffers) → length (lastLine run b .prints) ≤ 1025
 unfolding lastLine
 last-line-prints run b = go (eqb (run .held) 0)
   where
@@ -282,7 +282,7 @@ last-line-prints run b = go (eqb (run .held) 0)
     go false = line-prints (today run b) (heldLine (run .held) (b .line))
 
 pub finish-room :
-    (run : Run) (b : Lent) → Ready run b → length (lastLine run b .prints ++ atEnd (lastLine run b .day)) ≤ 66570
+    (run : Run) (b : Buffers) → InOrder run b → length (lastLine run b .prints ++ atEnd (lastLine run b .day)) ≤ 66570
 finish-room run b ok =
     let sum = length-append (lastLine run b .prints) (atEnd (lastLine run b .day)) in
     let line = last-line-prints run b in
@@ -290,9 +290,9 @@ finish-room run b ok =
     omega arith
 
 -- what finishing leaves
-pub record Done (l : List ℕ) (run : Run) (b : Lent) : Type 0 where
+pub record Done (l : List ℕ) (run : Run) (b : Buffers) : Type 0 where
   pub wrote : ℕ
-  pub b′ : Lent
+  pub b′ : Buffers
   pub is : finish run b ≡ finishes wrote b′
   pub prints : fromHere (today run b) l [] ≡ take wrote (b′ .out)
 
@@ -301,7 +301,7 @@ some-held c cs held line (whole few size same) e = omega arith
 some-held c cs held line (tooLong long over) e = omega arith
 
 last-prints :
-    (l : List ℕ) (run : Run) (b : Lent) → Held l (run .held) (b .line) →
+    (l : List ℕ) (run : Run) (b : Buffers) → Held l (run .held) (b .line) →
     fromHere (today run b) l [] ≡ lastLine run b .prints ++ atEnd (lastLine run b .day)
 unfolding lastLine
 last-prints [] run b (whole few size same) =
@@ -314,14 +314,14 @@ last-prints (c ∷ cs) run b h =
     )
     (rest-is-line (today run b) c cs)
 
-pub finish-prints : (l : List ℕ) (run : Run) (b : Lent) → Stands l run b → Done l run b
+pub finish-prints : (l : List ℕ) (run : Run) (b : Buffers) → Stands l run b → Done l run b
 unfolding finish finishGood
 finish-prints l run b s =
     let a = lastLine run b in
     let text = a .prints ++ atEnd (a .day) in
     record {
       wrote = length text;
-      b′ = lent (b .line) (a .day .table) (atFront text (b .out));
+      b′ = lentBuffers (b .line) (a .day .table) (atFront text (b .out));
       is = rw (not-refused run b (s .ready));
       prints = last-prints l run b (s .held) ∙ sym (take-append-seam text (drop (length text) (b .out)));
     }

@@ -45,8 +45,8 @@ pub limits : (f : First) → inLimits f ≡ true → Limits f
 unfolding inLimits
 limits f e =
     let (shape, tasks) = and-eq-true-iff (within 1 14 (f .m) && within 1 12 (f .r)) (within 1 16 (f .tasks)) .0 e in
-    let (home, rest) = and-eq-true-iff (within 1 14 (f .m)) (within 1 12 (f .r)) .0 shape in
-    let m = between 1 14 (f .m) home in
+    let (homeAt, rest) = and-eq-true-iff (within 1 14 (f .m)) (within 1 12 (f .r)) .0 shape in
+    let m = between 1 14 (f .m) homeAt in
     let r = between 1 12 (f .r) rest in
     let n = between 1 16 (f .tasks) tasks in
     record {

@@ -13,7 +13,7 @@ use borrow.Author.Tests.{ltb-true, ltb-false}
 use Rattle.frame_rules.specs.declared.Run.{Run}
 use Rattle.frame_rules.specs.Lines.{linesOf}
 use Rattle.frame_rules.specs.Frame.{atFirst, dawn, output}
-use Rattle.frame_rules.specs.Feed.{Lent, lent, dayOf, runOf, Feeding, feeds, refused, feed}
+use Rattle.frame_rules.specs.Feed.{Buffers, lentBuffers, dayOf, runOf, Feeding, feeds, refused, feed}
 use Rattle.frame_rules.specs.Feed.{Finishing, finishes, refusedToo, finish}
 use Rattle.frame_pieces.specs.Limits.{dawn-fits}
 use Rattle.frame_pieces.specs.Reading.{fromHere}
@@ -24,17 +24,17 @@ use Rattle.frame_pieces.specs.Feeding.{today, Stands, Fed, feed-prints, 
 -- where a caller is: it goes on, with the run, the buffers and all that was printed so far; or a call was refused; or
 -- it was no further after as many calls as there are bytes
 pub data Caller : Type 0 where
-  goes : Run → Lent → List ℕ → Caller
+  goes : Run → Buffers → List ℕ → Caller
   stopped : ℕ → Caller
   astray : Caller
 
 -- after a call of feed: what it printed is kept, and the caller goes on from the point reached
-abbrev pub onward : (Run → ℕ → Lent → List ℕ → Caller) → List ℕ → Feeding → Caller
+abbrev pub onward : (Run → ℕ → Buffers → List ℕ → Caller) → List ℕ → Feeding → Caller
 onward next text (feeds run at wrote b) = next run at b (text ++ take wrote (b .out))
 onward next text (refused n b) = stopped n
 
 -- a piece is fed from a point on, and again from the point reached, until that is its end; n calls at most
-unfoldable pub feedFrom : ℕ → List ℕ → Run → ℕ → Lent → List ℕ → Caller
+unfoldable pub feedFrom : ℕ → List ℕ → Run → ℕ → Buffers → List ℕ → Caller
 feedFrom zero piece run at b text = cond (ltb at (length piece)) astray (goes run b text)
 feedFrom (suc n) piece run at b text =
     cond (ltb at (length piece)) (onward (feedFrom n piece) text (feed run piece at b)) (goes run b text)
@@ -63,7 +63,7 @@ finishAll (stopped n) = short
 finishAll astray = short
 
 -- all of it: from the first line on, nothing of a line held and nothing printed
-unfoldable pub fedAndFinished : List (List ℕ) → Lent → Written
+unfoldable pub fedAndFinished : List (List ℕ) → Buffers → Written
 fedAndFinished pieces b = finishAll (feedAll pieces (goes (runOf atFirst) b []))
 
 -- ---- the proof
@@ -71,27 +71,27 @@ fedAndFinished pieces b = finishAll (feedAll pieces (goes (runOf atFirst) b []))
 -- and then what is printed from here
 data Right (input : List ℕ) : Caller → Type 0 where
   right :
-      {run : Run} {b : Lent} {text : List ℕ} (l : List ℕ) → Stands l run b →
+      {run : Run} {b : Buffers} {text : List ℕ} (l : List ℕ) → Stands l run b →
       ((more : List ℕ) → output (input ++ more) ≡ text ++ fromHere (today run b) l more) →
       Right input (goes run b text)
 
 -- right at a point of a piece, with calls enough for the rest of it
 abbrev FromPoint : List ℕ → List ℕ → ℕ → Type 0
 FromPoint input piece n =
-    (run : Run) (at : ℕ) (b : Lent) (text l : List ℕ) → length piece ≤ at + n → Stands l run b →
+    (run : Run) (at : ℕ) (b : Buffers) (text l : List ℕ) → length piece ≤ at + n → Stands l run b →
     ((more : List ℕ) → output (input ++ take at piece ++ more) ≡ text ++ fromHere (today run b) l more) →
     Right (input ++ piece) (feedFrom n piece run at b text)
 
 module _ (input piece : List ℕ) where
   at-end :
-      (run : Run) (at : ℕ) (b : Lent) (text l : List ℕ) → length piece ≤ at → Stands l run b →
+      (run : Run) (at : ℕ) (b : Buffers) (text l : List ℕ) → length piece ≤ at → Stands l run b →
       ((more : List ℕ) → output (input ++ take at piece ++ more) ≡ text ++ fromHere (today run b) l more) →
       Right (input ++ piece) (goes run b text)
   at-end run at b text l h s same = right l s (rw (take-all at piece h) at same)
 
   -- one more call: what it took stands behind what was fed, and what it printed behind what was printed
   one-call :
-      (n : ℕ) → FromPoint input piece n → (run : Run) (at : ℕ) (b : Lent) (text l : List ℕ) →
+      (n : ℕ) → FromPoint input piece n → (run : Run) (at : ℕ) (b : Buffers) (text l : List ℕ) →
       length piece ≤ at + suc n → at < length piece → Stands l run b →
       ((more : List ℕ) → output (input ++ take at piece ++ more) ≡ text ++ fromHere (today run b) l more) →
       Right (input ++ piece) (onward (feedFrom n piece) text (feed run piece at b))
@@ -160,7 +160,7 @@ whole-right {input} (right {run} {b} {text} l s same) =
 -- a caller that begins has fed nothing
 begins :
     (line out : List ℕ) → 4096 ≤ length line → 66570 ≤ length out →
-    Right [] (goes (runOf atFirst) (lent line (replicate 32772 0) out) [])
+    Right [] (goes (runOf atFirst) (lentBuffers line (replicate 32772 0) out) [])
 unfolding output linesOf dawn fromHere dayOf
 begins line out held room =
     right []
@@ -173,6 +173,6 @@ begins line out held room =
 -- any pieces, in any buffers that are large enough
 pub any-pieces :
     (pieces : List (List ℕ)) (line out : List ℕ) → 4096 ≤ length line → 66570 ≤ length out →
-    fedAndFinished pieces (lent line (replicate 32772 0) out) ≡ written (output (flatten pieces))
+    fedAndFinished pieces (lentBuffers line (replicate 32772 0) out) ≡ written (output (flatten pieces))
 unfolding fedAndFinished
 any-pieces pieces line out held room = whole-right (all-right pieces (begins line out held room))

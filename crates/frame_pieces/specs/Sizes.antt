@@ -12,7 +12,7 @@ use Rattle.rules.specs.declared.Task.{Task}
 use Rattle.rules.specs.Word.{Word}
 use Rattle.rules.specs.Bytes.{wordsOf}
 use Rattle.rules.specs.Shape.{shapeOf, inRange, keys, places, goodTable}
-use Rattle.rules.specs.Record.{homePlace, atRest}
+use Rattle.rules.specs.Record.{homePlaceOf, atRest}
 use Rattle.rules.specs.Answer as answer
 use Rattle.rules.specs.Answer.{Leaves, leaves}
 use Rattle.rules.specs.Give.{taskAt, goodTask, giveTo, storedAt, give}
@@ -88,7 +88,7 @@ module _ (sh : Shape) (ws : List Word) (t : Task) where
 
   mark-sized : Sized (length ws) (phase.mark sh ws t)
   unfolding phase.mark marked
-  mark-sized = sized (marks-length (eqb (t .mark) 2) (eqb (t .mark) 1) (t .goal) (homePlace sh t))
+  mark-sized = sized (marks-length (eqb (t .mark) 2) (eqb (t .mark) 1) (t .goal) (homePlaceOf sh t))
 
   phase-sized : Sized (length ws) (ofPhase sh ws t)
   unfolding ofPhase phase.backOff phase.freeLeft phase.freeRight
@@ -234,7 +234,7 @@ step-sizes f i (leaves a l) e u =
           answered-length
           (eqb (taskAt (l .tasks) i .phase) 13)
           (f .answers)
-          (getD (f .holds) i 0)
+          (getD (f .serving) i 0)
           (taskAt (l .tasks) i .answer);
     }
 

@@ -27,10 +27,10 @@ use Rattle.frame_rounds.specs.Sitting.{Sat, sat, turnOne, turn-one}
 -- the floor of the first n of some tasks
 abbrev pub floorWith : ℕ → List ℕ → List ℕ → List Task → List ℕ → ℕ → Floor
 floorWith n table answers ts hs k =
-    record { table = table; tasks = take n ts; holds = take n hs; taken = k; answers = answers }
+    record { table = table; tasks = take n ts; serving = take n hs; taken = k; answers = answers }
 
 abbrev pub floorOf : ℕ → List ℕ → List ℕ → Desk → Floor
-floorOf n table answers d = floorWith n table answers (d .tasks) (d .holds) (d .taken)
+floorOf n table answers d = floorWith n table answers (d .tasks) (d .serving) (d .taken)
 
 -- the turns that are left of a round
 abbrev pub turnsFrom : ℕ → ℕ → List ℕ → ℕ → ℕ → Floor → Floor
@@ -53,24 +53,24 @@ module _ (m r : ℕ) (ks : List ℕ) (n : ℕ) (few : n ≤ 16) where
     where
       one :
           (x : Sat) →
-          x ≡ turnOne m r ks table answers (record { task = taskAt ts i; holds = getD hs i 0; taken = k }) →
+          x ≡ turnOne m r ks table answers (record { task = taskAt ts i; serving = getD hs i 0; taken = k }) →
           turn m r ks i (floorWith n table answers ts hs k)
-          ≡ floorWith n (x .table) (x .answers) (set ts i (x .sitting .task)) (set hs i (x .sitting .holds))
+          ≡ floorWith n (x .table) (x .answers) (set ts i (x .sitting .task)) (set hs i (x .sitting .serving))
           (x .sitting .taken)
       one x e =
           turn-one m r ks i (floorWith n table answers ts hs k) inside
           (omega (arith, length-take-le n ts (omega arith)))
           ∙ rw (getD-take n ts i noTask here, getD-take n hs i 0 here, sym e)
-          (rw (take-set-lt n ts i (x .sitting .task) here, take-set-lt n hs i (x .sitting .holds) here))
+          (rw (take-set-lt n ts i (x .sitting .task) here, take-set-lt n hs i (x .sitting .serving) here))
         where
           inside : i < length (take n ts)
           inside = omega (arith, length-take-le n ts (omega arith))
 
       pub turns-on : (table' answers' : List ℕ) (s : Sitting) →
           sat table' answers' s
-          ≡ turnOne m r ks table answers (record { task = taskAt ts i; holds = getD hs i 0; taken = k }) →
+          ≡ turnOne m r ks table answers (record { task = taskAt ts i; serving = getD hs i 0; taken = k }) →
           turnsFrom m r ks n (i + 1)
-          (floorWith n table' answers' (set ts i (s .task)) (set hs i (s .holds)) (s .taken))
+          (floorWith n table' answers' (set ts i (s .task)) (set hs i (s .serving)) (s .taken))
           ≡ turnsFrom m r ks n i (floorWith n table answers ts hs k)
       unfolding turns
       turns-on table' answers' s e =
@@ -80,7 +80,7 @@ module _ (m r : ℕ) (ks : List ℕ) (n : ℕ) (few : n ≤ 16) where
           ∙ ap (λ (k' : ℕ). turns m r ks k' i (floorWith n table answers ts hs k)) less
         where
           after : Floor
-          after = floorWith n table' answers' (set ts i (s .task)) (set hs i (s .holds)) (s .taken)
+          after = floorWith n table' answers' (set ts i (s .task)) (set hs i (s .serving)) (s .taken)
 
 -- ---- the loop of a round: task i is next
 pub record Turning (m r : ℕ) (ks : List ℕ) (n : ℕ) (f₀ : Floor) (table answers : List ℕ) (ts : List Task)
@@ -110,9 +110,9 @@ module _ {m r : ℕ} {ks : List ℕ} {n : ℕ} (few : n ≤ 16) where
       pub turning-on :
           {table' answers' : List ℕ} {s : Sitting} → i < n →
           sat table' answers' s
-          ≡ turnOne m r ks table answers (record { task = taskAt ts i; holds = getD hs i 0; taken = k }) →
+          ≡ turnOne m r ks table answers (record { task = taskAt ts i; serving = getD hs i 0; taken = k }) →
           length table' ≡ length table → length answers' ≡ length answers →
-          Turning m r ks n f₀ table' answers' (set ts i (s .task)) (set hs i (s .holds)) (s .taken) (i + 1)
+          Turning m r ks n f₀ table' answers' (set ts i (s .task)) (set hs i (s .serving)) (s .taken) (i + 1)
       turning-on {table'} {answers'} {s} here e same same' =
           record {
             low = omega arith;

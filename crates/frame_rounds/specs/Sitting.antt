@@ -44,7 +44,7 @@ takeNext m r ks s =
     cond (ltb (s .taken) (length ks))
     (record {
       task = leftTask (giveOne m r (getD ks (s .taken) 0) (s .task));
-      holds = s .taken;
+      serving = s .taken;
       taken = suc (s .taken);
     })
     s
@@ -54,10 +54,10 @@ unfoldable pub answered : List ℕ → ℕ → Task → List ℕ
 answered answers i t = cond (eqb (t .phase) 13) (set answers i (t .answer)) answers
 
 abbrev pub seated : Sitting → Task → Sitting
-seated s t = record { task = t; holds = s .holds; taken = s .taken }
+seated s t = record { task = t; serving = s .serving; taken = s .taken }
 
 abbrev pub afterOne : List ℕ → Sitting → Leaves Left → Sat
-afterOne answers s (leaves a l) = sat (l .table) (answered answers (s .holds) (l .task)) (seated s (l .task))
+afterOne answers s (leaves a l) = sat (l .table) (answered answers (s .serving) (l .task)) (seated s (l .task))
 
 unfoldable pub makeStep : ℕ → ℕ → List ℕ → List ℕ → Sitting → Sat
 makeStep m r table answers s = afterOne answers s (stepOne m r table (s .task))
@@ -68,14 +68,14 @@ turnOne m r ks table answers s =
 
 -- the task that sits at a place of the floor, and the floor with what its turn leaves
 abbrev pub sittingAt : Floor → ℕ → Sitting
-sittingAt f i = record { task = taskAt (f .tasks) i; holds = getD (f .holds) i 0; taken = f .taken }
+sittingAt f i = record { task = taskAt (f .tasks) i; serving = getD (f .serving) i 0; taken = f .taken }
 
 abbrev pub putBack : Floor → ℕ → Sat → Floor
 putBack f i x =
     record {
       table = x .table;
       tasks = set (f .tasks) i (x .sitting .task);
-      holds = set (f .holds) i (x .sitting .holds);
+      serving = set (f .serving) i (x .sitting .serving);
       taken = x .sitting .taken;
       answers = x .answers;
     }
@@ -87,12 +87,12 @@ module _ (m r : ℕ) (ks : List ℕ) (i : ℕ) (f : Floor) (here : i < length (f
 
   -- a task and a number that stay as they were are put back as they were
   put-same : f ≡ putBack f i (sat (f .table) (f .answers) (sittingAt f i))
-  put-same = rw (set-getD (f .tasks) i noTask, set-getD (f .holds) i 0)
+  put-same = rw (set-getD (f .tasks) i noTask, set-getD (f .serving) i 0)
 
   took : (x : Leaves Task) →
       afterTake f i (storedAt (f .tasks) i x)
       ≡ putBack f i
-      (sat (f .table) (f .answers) (record { task = leftTask x; holds = f .taken; taken = suc (f .taken) }))
+      (sat (f .table) (f .answers) (record { task = leftTask x; serving = f .taken; taken = suc (f .taken) }))
   took (leaves a t) = refl
 
   takes : afterTake f i (give m r (getD ks (f .taken) 0) (f .tasks) i)
@@ -100,7 +100,7 @@ module _ (m r : ℕ) (ks : List ℕ) (i : ℕ) (f : Floor) (here : i < length (f
       (sat (f .table) (f .answers)
       (record {
         task = leftTask (giveOne m r (getD ks (f .taken) 0) (taskAt (f .tasks) i));
-        holds = f .taken;
+        serving = f .taken;
         taken = suc (f .taken);
       }))
   takes = ap (afterTake f i) (give-one m r (getD ks (f .taken) 0) (f .tasks) i good)
@@ -109,7 +109,7 @@ module _ (m r : ℕ) (ks : List ℕ) (i : ℕ) (f : Floor) (here : i < length (f
   stepped : (x : Leaves Left) →
       afterStep f i (lentOf (f .tasks) i x) ≡ putBack f i (afterOne (f .answers) (sittingAt f i) x)
   unfolding answered
-  stepped (leaves a l) = rw (getD-set-same (f .tasks) i (l .task) noTask here, set-getD (f .holds) i 0)
+  stepped (leaves a l) = rw (getD-set-same (f .tasks) i (l .task) noTask here, set-getD (f .serving) i 0)
 
   pub turn-one : turn m r ks i f ≡ putBack f i (turnOne m r ks (f .table) (f .answers) (sittingAt f i))
   unfolding turn turnOne takeNext makeStep
@@ -125,7 +125,7 @@ module _ (m r : ℕ) (ks : List ℕ) (i : ℕ) (f : Floor) (here : i < length (f
           (cond more
           (record {
             task = leftTask (giveOne m r (getD ks (f .taken) 0) (taskAt (f .tasks) i));
-            holds = f .taken;
+            serving = f .taken;
             taken = suc (f .taken);
           })
           (sittingAt f i)))
@@ -139,7 +139,7 @@ module _ (m r : ℕ) (ks : List ℕ) (i : ℕ) (f : Floor) (here : i < length (f
 pub after-says :
     (answers : List ℕ) (s : Sitting) (x : Turn) (after : List ℕ) →
     afterOne answers s (stepSays (s .task) x after)
-    ≡ sat after (answered answers (s .holds) (leftTask (turnSays (s .task) x)))
+    ≡ sat after (answered answers (s .serving) (leftTask (turnSays (s .task) x)))
     (seated s (leftTask (turnSays (s .task) x)))
 after-says answers s (Next u) after = refl
 after-says answers s (Refused n) after = refl
@@ -173,7 +173,7 @@ module _ (m r : ℕ) (line : List ℕ) (s : Sitting) where
       key ≡ getD (keysOf line) (s .taken) 0 →
       turnSays (s .task) x ≡ giveOne m r key (s .task) →
       t ≡ leftTask (turnSays (s .task) x) →
-      record { task = t; holds = s .taken; taken = s .taken + 1 } ≡ takeNext m r (keysOf line) s
+      record { task = t; serving = s .taken; taken = s .taken + 1 } ≡ takeNext m r (keysOf line) s
   unfolding takeNext
   take-more key x t more e gave kept =
       rw (lt-ltb (s .taken) (length (keysOf line)) (next-there more), sym e, sym gave, sym kept, add-one (s .taken))
@@ -187,7 +187,7 @@ module _ (m r : ℕ) (table answers : List ℕ) (s : Sitting) where
       (x : Turn) (t : Task) (after answers' : List ℕ) →
       stepSays (s .task) x after ≡ stepOne m r table (s .task) →
       t ≡ leftTask (turnSays (s .task) x) →
-      answers' ≡ answered answers (s .holds) t →
+      answers' ≡ answered answers (s .serving) t →
       sat after answers' (seated s t) ≡ makeStep m r table answers s
   unfolding makeStep
   step-sat x t after answers' e kept wrote =

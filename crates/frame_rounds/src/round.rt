@@ -17,7 +17,7 @@ ghost use Rattle.frame_rounds.specs.Desk.{floorWith, floorOf, answeredAt
 // Places for sixteen tasks, with the key that each holds, and how many keys are taken.
 pub struct Desk {
     pub tasks: [Task; 16],
-    pub holds: [usize; 16],
+    pub serving: [usize; 16],
     pub taken: usize,
 }
 
@@ -39,7 +39,7 @@ fn round(
         (floorWith n (now (table .entry)) (now (answers .entry)) seats numbers count) ⌝ }
 {
     let mut tasks = seats;
-    let mut holds = numbers;
+    let mut serving = numbers;
     let mut taken = count;
     let mut i = 0;
     while i < n {
@@ -51,20 +51,20 @@ fn round(
             answers,
             Sitting {
                 task: tasks[i],
-                holds: holds[i],
+                serving: serving[i],
                 taken: taken,
             },
         );
         let task = s.task;
-        let number = s.holds;
+        let number = s.serving;
         tasks[i] = task;
-        holds[i] = number;
+        serving[i] = number;
         taken = s.taken;
         i += 1;
     }
     Desk {
         tasks: tasks,
-        holds: holds,
+        serving: serving,
         taken: taken,
     }
 }
@@ -125,8 +125,8 @@ pub fn rounds(
             return d;
         } else {
             let tasks = d.tasks;
-            let holds = d.holds;
-            d = round(m, r, n, table, line, answers, tasks, holds, d.taken);
+            let serving = d.serving;
+            d = round(m, r, n, table, line, answers, tasks, serving, d.taken);
             left -= 1;
         }
     }

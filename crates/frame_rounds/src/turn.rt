@@ -18,7 +18,7 @@ ghost use Rattle.frame_rounds.specs.Sitting.{leftTask, sat, answered, ta
 // A task, which of the line's keys it holds (by number, from 0), and how many keys are taken.
 pub struct Sitting {
     pub task: Task,
-    pub holds: usize,
+    pub serving: usize,
     pub taken: usize,
 }
 
@@ -50,7 +50,7 @@ fn take_next(m: u32, r: u32, line: &[u8], s: Sitting) -> Sitting
         let key = key_at(line, i);
         Sitting {
             task: kept(s.task, give(m, r, key, s.task)),
-            holds: i,
+            serving: i,
             taken: i + 1,
         }
     } else {
@@ -75,10 +75,10 @@ fn make_step(m: u32, r: u32, table: &mut [u8], answers: &mut [u8], s: Sitting) -
         ≡ makeStep m r (now (table .entry)) (now (answers .entry)) s ⌝ }
 {
     let task = kept(s.task, step(m, r, table, s.task));
-    answer_if(answers, s.holds, task);
+    answer_if(answers, s.serving, task);
     Sitting {
         task: task,
-        holds: s.holds,
+        serving: s.serving,
         taken: s.taken,
     }
 }

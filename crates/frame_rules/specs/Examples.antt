@@ -16,7 +16,7 @@ use Rattle.rules.specs.Shape.{shapeOf, inRange, homes, remainders, keys, places
 use Rattle.rules.specs.Entry.{placeOfHome, homeOfPlace, homeOf, remainderOf, split, sameHome, sameEntry, precedes}
 use Rattle.rules.specs.Table.{endsInChange, rising, soundRun, virginPlaces, deal, entriesBetween, guardsVoid}
 use Rattle.rules.specs.Lay.{holds}
-use Rattle.rules.specs.Record.{homePlace, busy, atRest, fitsHand, fitsBusy, fits}
+use Rattle.rules.specs.Record.{homePlaceOf, busy, atRest, fitsHand, fitsBusy, fits}
 use Rattle.rules.specs.Phase.{home, lookLeft, lookRight, lockLeft, lockRight, backOff, readable, smaller, markOf}
 use Rattle.rules.specs.Phase.{handOf, goalOf, readEntries, read, movesOn, fillHand, neighbour, exchange, move}
 use Rattle.rules.specs.Phase.{setChange, setVirgin, marked, mark, freeLeft, freeRight}
@@ -37,63 +37,63 @@ pub record Row : Type 0 where
   pub paper : List ℕ
 
 -- an input's text, and the text that the paper has printed for it
-abbrev says : String → String → Row
-says input paper = record { input = bytes input; paper = bytes paper }
+abbrev row : String → String → Row
+row input paper = record { input = bytes input; paper = bytes paper }
 
 abbrev pub rows : List Row
 rows =
     -- document 01's example
-    says
+    row
     "030402\n0000003500000031\n0000004C0000003800000035\n"
     "0202\n020201\n00000000100110057008700C0000000000000000\n"
     -- a full table, and a key found in it
-    ∷ says "010101\n00000000000000010000000200000001\n" "02020301\n0000300050010000\n"
+    ∷ row "010101\n00000000000000010000000200000001\n" "02020301\n0000300050010000\n"
     -- the answers stand in key order: key 3 is answered first, while key 0 takes eight steps to be found
-    ∷ says "010102\n00000000\n0000000000000003\n" "02\n0102\n0000700070010000\n"
+    ∷ row "010102\n00000000\n0000000000000003\n" "02\n0102\n0000700070010000\n"
     -- a turn takes a key or makes a step, not both: else key 2 would be put and key 1 find the table full
-    ∷ says "010103\n0000000000000000000000010000000000000002\n" "0201020103\n0000300050010000\n"
+    ∷ row "010103\n0000000000000000000000010000000000000002\n" "0201020103\n0000300050010000\n"
     -- 101 rounds: the limit of 98 is for each key
-    ∷ says
+    ∷ row
     "010101\n000000000000000000000000000000000000000000000000000000000000000000000000000000000000000000000000\n"
     "020101010101010101010101\n0000700000000000\n"
     -- every digit, in either letter case; capitals are printed
-    ∷ says
+    ∷ row
     "030c01\n0000012300001456000027890000300A00004BCD00005EFa00006bcd00007ef0\n"
     "0202020202020202\n0000712374567789700A7BCD7EFA7BCD7EF00000\n"
     -- the characters beside the digits
-    ∷ says
+    ∷ row
     "010101\n0000000/\n0000000:\n0000000@\n0000000G\n0000000`\n0000000g\n"
     "EE\nEE\nEE\nEE\nEE\nEE\n0000000000000000\n"
     -- the last line may lack its line feed
-    ∷ says "010101\n00000000" "02\n0000700000000000\n"
-    ∷ says "010101" "0000000000000000\n"
+    ∷ row "010101\n00000000" "02\n0000700000000000\n"
+    ∷ row "010101" "0000000000000000\n"
     -- an empty line gives an empty line; behind the last line feed there is none
-    ∷ says "010101\n\n00000003\n\n" "\n02\n\n0000000070010000\n"
+    ∷ row "010101\n\n00000003\n\n" "\n02\n\n0000000070010000\n"
     -- passed over: a carriage return, a length that is no multiple of 8, a key out of range
-    ∷ says "010101\n00000000\r\n00000001\n" "EE\n02\n0000700100000000\n"
-    ∷ says "010101\n0000000\n000000000\n" "EE\nEE\n0000000000000000\n"
-    ∷ says "010101\n00000004\n0000000000000004\n" "EE\nEE\n0000000000000000\n"
+    ∷ row "010101\n00000000\r\n00000001\n" "EE\n02\n0000700100000000\n"
+    ∷ row "010101\n0000000\n000000000\n" "EE\nEE\n0000000000000000\n"
+    ∷ row "010101\n00000004\n0000000000000004\n" "EE\nEE\n0000000000000000\n"
     -- a missing first line, and bad ones: the run has ended
-    ∷ says "" "EE\n"
-    ∷ says "\n010101\n" "EE\n"
-    ∷ says "01010\n010101\n" "EE\n"
-    ∷ says "0101010\n00000000\n" "EE\n"
-    ∷ says "01010G\n00000000\n" "EE\n"
-    ∷ says "010101\r\n00000000\n" "EE\n"
+    ∷ row "" "EE\n"
+    ∷ row "\n010101\n" "EE\n"
+    ∷ row "01010\n010101\n" "EE\n"
+    ∷ row "0101010\n00000000\n" "EE\n"
+    ∷ row "01010G\n00000000\n" "EE\n"
+    ∷ row "010101\r\n00000000\n" "EE\n"
     -- m 1 to 14, r 1 to 12, 1 to 16 tasks
-    ∷ says "000101\n00000000\n" "EE\n"
-    ∷ says "0F0101\n00000000\n" "EE\n"
-    ∷ says "010001\n00000000\n" "EE\n"
-    ∷ says "010D01\n00000000\n" "EE\n"
-    ∷ says "010100\n00000000\n" "EE\n"
-    ∷ says "010111\n00000000\n" "EE\n"
-    ∷ says "010C10\n00001FFF\n" "02\n000000007FFF0000\n"
+    ∷ row "000101\n00000000\n" "EE\n"
+    ∷ row "0F0101\n00000000\n" "EE\n"
+    ∷ row "010001\n00000000\n" "EE\n"
+    ∷ row "010D01\n00000000\n" "EE\n"
+    ∷ row "010100\n00000000\n" "EE\n"
+    ∷ row "010111\n00000000\n" "EE\n"
+    ∷ row "010C10\n00001FFF\n" "02\n000000007FFF0000\n"
     ∷ []
 
 pub rows-hold : map (λ (r : Row). output (r .input)) rows ≡ map (λ (r : Row). r .paper) rows
 unfolding count all any wordOf numberOf isVoid isZero isLock wordsOf bytesOf inRange homes remainders keys places
     rightGuard fitsLength goodTable placeOfHome homeOfPlace homeOf remainderOf split sameHome sameEntry precedes
-    endsInChange rising soundRun virginPlaces deal entriesBetween guardsVoid holds homePlace busy atRest fitsHand
+    endsInChange rising soundRun virginPlaces deal entriesBetween guardsVoid holds homePlaceOf busy atRest fitsHand
     fitsBusy fits home lookLeft lookRight lockLeft lockRight backOff readable smaller markOf handOf goalOf
     readEntries read movesOn fillHand neighbour exchange move setChange setVirgin marked mark freeLeft freeRight
     ofPhase stepOf step given goodTask giveTo give isDigit worth numberAfter number glyph digitsOf wordDigits

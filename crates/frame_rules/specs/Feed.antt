@@ -20,13 +20,13 @@ use Rattle.frame_rules.specs.Frame as frame
 use Rattle.frame_rules.specs.Frame.{Day, After, atFirst, among, ended, lineIn, atEnd}
 
 -- what is lent: the line begun, the table, and room for what is printed
-pub record Lent : Type 0 where
+pub record Buffers : Type 0 where
   pub line : List ℕ
   pub table : List ℕ
   pub out : List ℕ
 
-abbrev pub lent : List ℕ → List ℕ → List ℕ → Lent
-lent line table out = record { line = line; table = table; out = out }
+abbrev pub lentBuffers : List ℕ → List ℕ → List ℕ → Buffers
+lentBuffers line table out = record { line = line; table = table; out = out }
 
 -- what the first line said
 abbrev pub firstIn : Run → First
@@ -58,7 +58,7 @@ ifAmong Ended b = true
 
 -- 0, or the refusal's number: 1 by shape and table, 3 by the tasks, 9 where a line of 4,096 bytes or what is printed
 -- could not be held (at most a line of answers, 1,025 bytes, and the table's, 65,545)
-unfoldable pub refusal : Run → Lent → ℕ
+unfoldable pub refusal : Run → Buffers → ℕ
 refusal run b =
     cond (ifAmong (run .stage) (within 1 14 (run .m) && within 1 12 (run .r)) && eqb (length (b .table)) 32772)
     (cond (ifAmong (run .stage) (within 1 16 (run .tasks)))
@@ -92,64 +92,64 @@ atFront text out = text ++ drop (length text) out
 
 -- what feeding leaves: the run that follows, the point reached in the piece, and how much is printed
 pub data Feeding : Type 0 where
-  feeds : Run → ℕ → ℕ → Lent → Feeding
-  refused : ℕ → Lent → Feeding
+  feeds : Run → ℕ → ℕ → Buffers → Feeding
+  refused : ℕ → Buffers → Feeding
 
-abbrev pub fedSays : FeedAnswer → Lent → Feeding
+abbrev pub fedSays : FeedAnswer → Buffers → Feeding
 fedSays (feed-answer.Fed run at wrote) b = feeds run at wrote b
 fedSays (feed-answer.Refused n) b = refused (numberOfRefusal n) b
 
 -- a line feed was met
-abbrev pub closes : ℕ → Lent → After → Feeding
+abbrev pub closes : ℕ → Buffers → After → Feeding
 closes at b a =
     feeds
     (runOf (a .day .stage))
     at
     (length (a .prints))
-    (lent (b .line) (a .day .table) (atFront (a .prints) (b .out)))
+    (lentBuffers (b .line) (a .day .table) (atFront (a .prints) (b .out)))
 
 -- the line's bytes at the point reached are held; where a line feed follows, that is a line
-unfoldable pub holds : Run → ℕ → ℕ → Bool → Lent → Feeding
-holds run at held met b =
+unfoldable pub heldOrClosed : Run → ℕ → ℕ → Bool → Buffers → Feeding
+heldOrClosed run at held met b =
     cond
     met
     (closes (suc at) b (lineIn (dayOf run (b .table)) (heldLine held (b .line))))
     (feeds (withHeld run held) at 0 b)
 
-unfoldable pub feedGood : Run → List ℕ → ℕ → Lent → Feeding
+unfoldable pub feedGood : Run → List ℕ → ℕ → Buffers → Feeding
 feedGood run rest at b =
-    holds run (at + lineLength rest) (heldAfter (run .held) (lineLength rest))
+    heldOrClosed run (at + lineLength rest) (heldAfter (run .held) (lineLength rest))
     (ltb (lineLength rest) (length rest))
-    (lent (lineAfter (b .line) (run .held) (take (lineLength rest) rest)) (b .table) (b .out))
+    (lentBuffers (lineAfter (b .line) (run .held) (take (lineLength rest) rest)) (b .table) (b .out))
 
 -- feed (the run, a piece, the point reached in it, what is lent)
-unfoldable pub feed : Run → List ℕ → ℕ → Lent → Feeding
+unfoldable pub feed : Run → List ℕ → ℕ → Buffers → Feeding
 feed run piece at b =
     cond (eqb (refusal run b) 0) (feedGood run (drop at piece) at b) (refused (refusal run b) b)
 
 -- what the end of the input leaves
 pub data Finishing : Type 0 where
-  finishes : ℕ → Lent → Finishing
-  refusedToo : ℕ → Lent → Finishing
+  finishes : ℕ → Buffers → Finishing
+  refusedToo : ℕ → Buffers → Finishing
 
-abbrev pub finishSays : FinishAnswer → Lent → Finishing
+abbrev pub finishSays : FinishAnswer → Buffers → Finishing
 finishSays (finish-answer.Wrote n) b = finishes n b
 finishSays (finish-answer.Refused n) b = refusedToo (numberOfRefusal n) b
 
 -- a last line that lacks its line feed is a line
-unfoldable pub lastLine : Run → Lent → After
+unfoldable pub lastLine : Run → Buffers → After
 lastLine run b =
     cond
     (eqb (run .held) 0)
     (record { day = dayOf run (b .table); prints = [] })
     (lineIn (dayOf run (b .table)) (heldLine (run .held) (b .line)))
 
-abbrev pub endsWith : Lent → List ℕ → List ℕ → Finishing
-endsWith b table text = finishes (length text) (lent (b .line) table (atFront text (b .out)))
+abbrev pub endsWith : Buffers → List ℕ → List ℕ → Finishing
+endsWith b table text = finishes (length text) (lentBuffers (b .line) table (atFront text (b .out)))
 
-unfoldable pub finishGood : Lent → After → Finishing
+unfoldable pub finishGood : Buffers → After → Finishing
 finishGood b a = endsWith b (a .day .table) (a .prints ++ atEnd (a .day))
 
-unfoldable pub finish : Run → Lent → Finishing
+unfoldable pub finish : Run → Buffers → Finishing
 finish run b =
     cond (eqb (refusal run b) 0) (finishGood b (lastLine run b)) (refusedToo (refusal run b) b)

@@ -14,8 +14,8 @@ use Rattle.frame_rules.specs.declared.Stage.the-variants.{AtFirst, Among
 use Rattle.frame_rules.specs.Digits.{isDigit, worth, numberAfter, number, glyph, wordDigits}
 use Rattle.frame_rules.specs.Lines.{firstOf, inLimits, goodFirst, goodLine}
 use Rattle.frame_rules.specs.Frame.{used, firstLine, frameLine, lineIn, atEnd}
-use Rattle.frame_rules.specs.Feed.{Lent, lent, dayOf, refusal, lineLength, heldAfter, lineAfter, heldLine}
-use Rattle.frame_rules.specs.Feed.{Feeding, feeds, refused, holds, feedGood, feed}
+use Rattle.frame_rules.specs.Feed.{Buffers, lentBuffers, dayOf, refusal, lineLength, heldAfter, lineAfter, heldLine}
+use Rattle.frame_rules.specs.Feed.{Feeding, feeds, refused, heldOrClosed, feedGood, feed}
 use Rattle.frame_rules.specs.Feed.{Finishing, finishes, refusedToo, lastLine, finishGood, finish}
 use Rattle.frame_rules.specs.Examples.{bytes}
 
@@ -26,8 +26,8 @@ runAt Among n = record { stage = Among; m = 1; r = 2; tasks = 3; held = n }
 runAt Ended n = record { stage = Ended; m = 0; r = 0; tasks = 0; held = n }
 
 -- buffers that are long enough, with a line begun and a table of zeros
-abbrev buffers : List ℕ → Lent
-buffers begun = lent (begun ++ replicate 4096 0) (replicate 32772 0) (replicate 66570 0)
+abbrev buffers : List ℕ → Buffers
+buffers begun = lentBuffers (begun ++ replicate 4096 0) (replicate 32772 0) (replicate 66570 0)
 
 -- what a reader sees of a call: the run that follows, the point reached, what is held, what is printed; or a refusal
 pub data Seen : Type 0 where
@@ -87,7 +87,7 @@ pub feeds-hold :
     feedRows
     ≡ map (λ (r : FeedRow). left (runAt (r .next) (length (r .held))) (r .point) (r .held) (r .prints)) feedRows
 unfolding all isDigit worth numberAfter number firstOf inLimits goodFirst goodLine firstLine frameLine lineIn dayOf
-    refusal lineLength heldAfter lineAfter heldLine holds feedGood feed
+    refusal lineLength heldAfter lineAfter heldLine heldOrClosed feedGood feed
 feeds-hold = refl
 
 -- a line of 4,096 bytes is held whole; a longer one is only counted, as 4,097
@@ -143,7 +143,7 @@ abbrev number-of : Limit → ℕ
 number-of l =
     refusal
     (record { stage = Among; m = l .m; r = l .r; tasks = l .tasks; held = 0 })
-    (lent (replicate (l .line) 0) (replicate (l .table) 0) (replicate (l .out) 0))
+    (lentBuffers (replicate (l .line) 0) (replicate (l .table) 0) (replicate (l .out) 0))
 
 pub refusals-hold :
     map

@@ -18,7 +18,7 @@ use Rattle.rules.specs.Step.{Lent, step}
 pub record Floor : Type 0 where
   pub table : List ℕ
   pub tasks : List Task
-  pub holds : List ℕ
+  pub serving : List ℕ
   pub taken : ℕ
   pub answers : List ℕ
 
@@ -28,7 +28,7 @@ start bytes n ks =
     record {
       table = bytes;
       tasks = replicate n noTask;
-      holds = replicate n 0;
+      serving = replicate n 0;
       taken = 0;
       answers = replicate (length ks) 0;
     }
@@ -39,7 +39,7 @@ afterTake f i (leaves a ts) =
     record {
       table = f .table;
       tasks = ts;
-      holds = set (f .holds) i (f .taken);
+      serving = set (f .serving) i (f .taken);
       taken = suc (f .taken);
       answers = f .answers;
     }
@@ -50,12 +50,12 @@ afterStep f i (leaves a l) =
     record {
       table = l .table;
       tasks = l .tasks;
-      holds = f .holds;
+      serving = f .serving;
       taken = f .taken;
       answers =
           cond
           (eqb (taskAt (l .tasks) i .phase) 13)
-          (set (f .answers) (getD (f .holds) i 0) (taskAt (l .tasks) i .answer))
+          (set (f .answers) (getD (f .serving) i 0) (taskAt (l .tasks) i .answer))
           (f .answers);
     }
 

@@ -11,7 +11,7 @@ use Rattle.frame_rules.specs.Digits.{digitsOf}
 use Rattle.frame_rules.specs.Frame.{After, after, among, ended, printed, error, lineIn}
 use Rattle.frame_rules.specs.Call.{Came, passedOver, answered, refused}
 use Rattle.frame_rules.specs.Call as call
-use Rattle.frame_rules.specs.Feed.{Lent, runOf, dayOf, heldLine, atFront}
+use Rattle.frame_rules.specs.Feed.{Buffers, runOf, dayOf, heldLine, atFront}
 use Rattle.frame_run.specs.declared.close.Closed.{Closed}
 
 -- how much is printed, and the buffer at whose front it stands
@@ -63,7 +63,7 @@ fewAnswers call.ended = true
 fewAnswers (refused n) = true
 
 -- ---- a last line that lacks its line feed; where none is begun, the run stays as it is
-unfoldable pub lastClosing : Run → Lent → Closing
+unfoldable pub lastClosing : Run → Buffers → Closing
 lastClosing run b =
     cond
     (eqb (run .held) 0)

@@ -11,9 +11,9 @@ ghost use mathlib.Core.Path.{_≡_};
 ghost use Prim.Native.Nat.{_≤_};
 ghost use lib.ListN.{length};
 ghost use Rattle.frame_rules.specs.Frame.{ended, lineIn, atEnd};
-ghost use Rattle.frame_rules.specs.Feed.{lent, runOf, dayOf, heldLine};
+ghost use Rattle.frame_rules.specs.Feed.{lentBuffers, runOf, dayOf, heldLine};
 ghost use Rattle.frame_pieces.specs.Limits.{Fit};
-ghost use Rattle.frame_pieces.specs.Feeding.{Ready};
+ghost use Rattle.frame_pieces.specs.Feeding.{InOrder};
 ghost use Rattle.frame_run.specs.Closing.{closed, closing, shown, printing};
 
 // The run that follows a line, and how much the line printed.
@@ -36,7 +36,7 @@ pub fn run_ended() -> Run
 }
 
 pub fn close(run: Run, held: usize, line: &[u8], table: &mut [u8], out: &mut [u8]) -> Closed
-    requires { ⌜ Ready run (lent (now line) (now table) (now out)) ⌝ }
+    requires { ⌜ InOrder run (lentBuffers (now line) (now table) (now out)) ⌝ }
     ensures { λ c. ⌜ closed c (now (table .exit)) (now (out .exit))
         ≡ closing (lineIn (dayOf run (now (table .entry))) (heldLine held (now (line .entry)))) (now (out .entry)) ⌝ }
 {

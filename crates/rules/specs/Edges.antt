@@ -11,7 +11,7 @@ use Rattle.rules.specs.Bytes.{wordsOf, bytesOf}
 use Rattle.rules.specs.Shape.{inRange, homes, remainders, keys, places, rightGuard, fitsLength, goodTable}
 use Rattle.rules.specs.Entry.{placeOfHome, homeOfPlace, homeOf, remainderOf, split, join, sameHome, sameEntry}
 use Rattle.rules.specs.Entry.{precedes}
-use Rattle.rules.specs.Table.{occupied, leftGap, lead, rightGap, cluster, endsInChange, rising, soundRun}
+use Rattle.rules.specs.Table.{occupiedPlaces, leftGap, lead, rightGap, cluster, endsInChange, rising, soundRun}
 use Rattle.rules.specs.Table.{virginPlaces}
 use Rattle.rules.specs.Table.{deal, entriesBetween, clusterEntries, entryAt, entriesFrom, entries, list}
 use Rattle.rules.specs.Table.{soundAt, soundFrom, guardsVoid, sound, locked}
@@ -23,7 +23,7 @@ use Rattle.rules.specs.Put.{layRun, enlargedFrom, addAt, putIn, put}
 use Rattle.rules.specs.Build.{zeros, puts, tooMany, buildIn, build}
 use Rattle.rules.specs.Listing.{atFront, listIn, listing}
 use Rattle.rules.specs.Fill.{figure, fill}
-use Rattle.rules.specs.Record.{homePlace, busy, atRest, fitsHand, fitsBusy, fits}
+use Rattle.rules.specs.Record.{homePlaceOf, busy, atRest, fitsHand, fitsBusy, fits}
 use Rattle.rules.specs.Give.{given, taskAt, goodTask}
 use Rattle.rules.specs.Phase as phase
 use Rattle.rules.specs.Step.{ofPhase, stepOf, Lent, step}
@@ -112,11 +112,11 @@ edges =
 pub edges-hold : map (λ (row : Row). row .call) edges ≡ map (λ (row : Row). row .paper) edges
 unfolding tableOf count all any wordOf numberOf isVoid isZero isLock wordsOf bytesOf inRange homes remainders keys
     places rightGuard fitsLength goodTable placeOfHome homeOfPlace homeOf remainderOf split join sameHome
-    sameEntry precedes occupied leftGap lead rightGap cluster endsInChange rising soundRun virginPlaces deal
+    sameEntry precedes occupiedPlaces leftGap lead rightGap cluster endsInChange rising soundRun virginPlaces deal
     entriesBetween clusterEntries entryAt entriesFrom entries list soundAt soundFrom guardsVoid sound locked
     roomBeside roomFor holds insert ascend hasHome endsGroup lay around soundAround lockedAround findIn find
     layRun enlargedFrom addAt putIn put zeros puts tooMany buildIn build atFront listIn listing figure fill
-    homePlace busy atRest fitsHand fitsBusy fits given goodTask ofPhase stepOf step stepped lone after
+    homePlaceOf busy atRest fitsHand fitsBusy fits given goodTask ofPhase stepOf step stepped lone after
     phase.home phase.lookLeft phase.lookRight phase.lockLeft phase.lockRight phase.backOff phase.read
     phase.fillHand phase.move phase.readable phase.smaller phase.markOf phase.handOf phase.goalOf
     phase.readEntries phase.mark phase.freeLeft phase.freeRight phase.movesOn phase.neighbour phase.exchange

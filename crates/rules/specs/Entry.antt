@@ -16,7 +16,7 @@ homeOfPlace p = p - 1
 
 -- a key as the table holds it: the place of its home, and its remainder
 pub record Entry : Type 0 where
-  pub home : ℕ
+  pub homePlace : ℕ
   pub remainder : ℕ
 
 unfoldable pub homeOf : Shape → ℕ → ℕ
@@ -26,17 +26,17 @@ unfoldable pub remainderOf : Shape → ℕ → ℕ
 remainderOf sh key = key % remainders sh
 
 unfoldable pub split : Shape → ℕ → Entry
-split sh key = record { home = placeOfHome (homeOf sh key); remainder = remainderOf sh key }
+split sh key = record { homePlace = placeOfHome (homeOf sh key); remainder = remainderOf sh key }
 
 unfoldable pub join : Shape → Entry → ℕ
-join sh e = homeOfPlace (e .home) * remainders sh + e .remainder
+join sh e = homeOfPlace (e .homePlace) * remainders sh + e .remainder
 
 -- by home, then by remainder
 unfoldable pub sameHome : Entry → Entry → Bool
-sameHome e f = eqb (e .home) (f .home)
+sameHome e f = eqb (e .homePlace) (f .homePlace)
 
 unfoldable pub sameEntry : Entry → Entry → Bool
 sameEntry e f = sameHome e f && eqb (e .remainder) (f .remainder)
 
 unfoldable pub precedes : Entry → Entry → Bool
-precedes e f = ltb (e .home) (f .home) || (sameHome e f && ltb (e .remainder) (f .remainder))
+precedes e f = ltb (e .homePlace) (f .homePlace) || (sameHome e f && ltb (e .remainder) (f .remainder))

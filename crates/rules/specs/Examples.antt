@@ -11,7 +11,7 @@ use Rattle.rules.specs.Bytes.{wordsOf, bytesOf}
 use Rattle.rules.specs.Shape.{inRange, homes, remainders, keys, places, rightGuard, fitsLength, goodTable}
 use Rattle.rules.specs.Entry.{placeOfHome, homeOfPlace, homeOf, remainderOf, split, join, sameHome, sameEntry}
 use Rattle.rules.specs.Entry.{precedes}
-use Rattle.rules.specs.Table.{occupied, leftGap, lead, rightGap, cluster, endsInChange, rising, soundRun}
+use Rattle.rules.specs.Table.{occupiedPlaces, leftGap, lead, rightGap, cluster, endsInChange, rising, soundRun}
 use Rattle.rules.specs.Table.{virginPlaces}
 use Rattle.rules.specs.Table.{deal, entriesBetween, clusterEntries, entryAt, entriesFrom, entries, list}
 use Rattle.rules.specs.Table.{soundAt, soundFrom, guardsVoid, sound, locked}
@@ -85,7 +85,7 @@ rows =
 pub rows-hold : map (λ (row : Row). row .call) rows ≡ map (λ (row : Row). row .paper) rows
 unfolding tableOf count all any wordOf numberOf isVoid wordsOf bytesOf inRange homes remainders keys places rightGuard
     fitsLength goodTable placeOfHome homeOfPlace homeOf remainderOf split join sameHome sameEntry precedes
-    occupied leftGap lead rightGap cluster endsInChange rising soundRun virginPlaces deal entriesBetween
+    occupiedPlaces leftGap lead rightGap cluster endsInChange rising soundRun virginPlaces deal entriesBetween
     clusterEntries entryAt entriesFrom entries list soundAt soundFrom guardsVoid sound locked roomBeside
     roomFor holds insert ascend hasHome endsGroup lay around soundAround lockedAround findIn find layRun
     enlargedFrom addAt putIn put zeros puts tooMany buildIn build atFront listIn listing

@@ -13,7 +13,7 @@ use Rattle.rules.specs.Word.{Word, isVoid}
 use Rattle.rules.specs.Bytes.{wordsOf}
 use Rattle.rules.specs.Shape.{shapeOf, keys, goodTable}
 use Rattle.rules.specs.Entry.{Entry, split}
-use Rattle.rules.specs.Table.{at, occupied, leftGap, rightGap, cluster, soundRun, clusterEntries, guardsVoid}
+use Rattle.rules.specs.Table.{at, occupiedPlaces, leftGap, rightGap, cluster, soundRun, clusterEntries, guardsVoid}
 use Rattle.rules.specs.Table.{locked}
 use Rattle.rules.specs.Lay.{holds}
 use Rattle.rules.specs.Answer.{Answer, says, refuses}
@@ -21,22 +21,22 @@ use Rattle.rules.specs.Answer.{Answer, says, refuses}
 -- the home place alone if unoccupied, else its cluster and the empty place at each end:
 -- an unoccupied home is its own gap on both sides, with no cluster between
 unfoldable pub around : List Word → ℕ → List Word
-around ws home = slice (leftGap (occupied ws) home) (suc (rightGap (occupied ws) home)) ws
+around ws homeAt = slice (leftGap (occupiedPlaces ws) homeAt) (suc (rightGap (occupiedPlaces ws) homeAt)) ws
 
 -- nothing unsound among the guards and the surroundings, and no guard occupied
 unfoldable pub soundAround : Shape → List Word → ℕ → Bool
-soundAround sh ws home =
+soundAround sh ws homeAt =
     guardsVoid sh ws
-    && (isVoid (at ws (leftGap (occupied ws) home)) && isVoid (at ws (rightGap (occupied ws) home)))
-    && soundRun sh (cluster ws home)
+    && (isVoid (at ws (leftGap (occupiedPlaces ws) homeAt)) && isVoid (at ws (rightGap (occupiedPlaces ws) homeAt)))
+    && soundRun sh (cluster ws homeAt)
 
 unfoldable pub lockedAround : List Word → ℕ → Bool
-lockedAround ws home = locked (around ws home)
+lockedAround ws homeAt = locked (around ws homeAt)
 
 unfoldable pub findIn : Shape → List Word → Entry → Answer
 findIn sh ws e =
-    cond (soundAround sh ws (e .home))
-    (cond (lockedAround ws (e .home)) (refuses 7) (says (bitOf (holds e (clusterEntries ws (e .home))))))
+    cond (soundAround sh ws (e .homePlace))
+    (cond (lockedAround ws (e .homePlace)) (refuses 7) (says (bitOf (holds e (clusterEntries ws (e .homePlace))))))
     (refuses 6)
 
 -- find (m, r, the lent table, key)

@@ -25,7 +25,7 @@ ascend (e ∷ es) = insert e (ascend es)
 
 -- whether a place is the home of one of some entries
 unfoldable pub hasHome : List Entry → ℕ → Bool
-hasHome es p = any (λ (e : Entry). eqb (e .home) p) es
+hasHome es p = any (λ (e : Entry). eqb (e .homePlace) p) es
 
 -- an entry ends its group if none follows, or if the next has another home
 unfoldable pub endsGroup : Entry → List Entry → Bool

@@ -10,12 +10,12 @@ use lib.Dec.{ltb, eqb}
 use Rattle.rules.specs.declared.Shape.{Shape}
 use Rattle.rules.specs.declared.Task.{Task}
 use Rattle.rules.specs.Lists.{count, all, any}
-use Rattle.rules.specs.Word.{Word, isZero, isLock, withLock, withVirgin, withChange, withRemainder, withPayload}
+use Rattle.rules.specs.Word.{Word, isZero, isLock, withLock, withVirgin, withChange, filledWith, withPayload}
 use Rattle.rules.specs.Shape.{rightGuard}
 use Rattle.rules.specs.Entry.{Entry, split, sameHome, precedes}
 use Rattle.rules.specs.Table.{at, between, soundRun, entriesBetween}
 use Rattle.rules.specs.Lay.{holds}
-use Rattle.rules.specs.Record.{homePlace, toPhase, withLeft, withRight, withHand, withGoal, withAnswer}
+use Rattle.rules.specs.Record.{homePlaceOf, toPhase, withLeft, withRight, withHand, withGoal, withAnswer}
 
 pub data Step : Type 0 where
   to : Task → List Word → Step
@@ -28,18 +28,18 @@ aloneWord x = record { remainder = x; occupied = true; virgin = true; change = t
 -- 1 home: word locked, stay; word 0, fill it, answer 2, phase 13; occupied, left = H − 1, phase 2; otherwise 6
 unfoldable pub home : Shape → List Word → Task → Step
 home sh ws t =
-    cond (at ws (homePlace sh t) .lock)
+    cond (at ws (homePlaceOf sh t) .lock)
     (to t ws)
-    (cond (isZero (at ws (homePlace sh t)))
-    (to (toPhase 13 (withAnswer 2 t)) (set ws (homePlace sh t) (aloneWord (split sh (t .key) .remainder))))
-    (cond (at ws (homePlace sh t) .occupied) (to (toPhase 2 (withLeft (homePlace sh t - 1) t)) ws) unsound))
+    (cond (isZero (at ws (homePlaceOf sh t)))
+    (to (toPhase 13 (withAnswer 2 t)) (set ws (homePlaceOf sh t) (aloneWord (split sh (t .key) .remainder))))
+    (cond (at ws (homePlaceOf sh t) .occupied) (to (toPhase 2 (withLeft (homePlaceOf sh t - 1) t)) ws) unsound))
 
 -- 2 look left: word at left occupied, left falls by 1; else right = H + 1, phase 3
 unfoldable pub lookLeft : Shape → List Word → Task → Step
 lookLeft sh ws t =
     cond (at ws (t .left) .occupied)
     (to (withLeft (t .left - 1) t) ws)
-    (to (toPhase 3 (withRight (homePlace sh t + 1) t)) ws)
+    (to (toPhase 3 (withRight (homePlaceOf sh t + 1) t)) ws)
 
 -- 3 look right: word at right occupied, right rises by 1; else phase 4
 unfoldable pub lookRight : Shape → List Word → Task → Step
@@ -112,7 +112,7 @@ movesOn t = toPhase (cond (eqb (t .hand) (t .goal)) 10 9) t
 unfoldable pub fillHand : Shape → List Word → Task → Step
 fillHand sh ws t =
     cond (isLock (at ws (t .hand)))
-    (to (movesOn t) (set ws (t .hand) (withRemainder (split sh (t .key) .remainder) (at ws (t .hand)))))
+    (to (movesOn t) (set ws (t .hand) (filledWith (split sh (t .key) .remainder) (at ws (t .hand)))))
     unsound
 
 -- the neighbour of hand towards goal
@@ -145,7 +145,7 @@ marked ws mark goal homeAt =
 
 -- 10: the marks; answer 2, phase 11
 unfoldable pub mark : Shape → List Word → Task → Step
-mark sh ws t = to (toPhase 11 (withAnswer 2 t)) (marked ws (t .mark) (t .goal) (homePlace sh t))
+mark sh ws t = to (toPhase 11 (withAnswer 2 t)) (marked ws (t .mark) (t .goal) (homePlaceOf sh t))
 
 -- 11: clear the lock at left, phase 12
 unfoldable pub freeLeft : Shape → List Word → Task → Step

@@ -12,7 +12,7 @@ use Rattle.rules.specs.Word.{Word}
 use Rattle.rules.specs.Bytes.{wordsOf, bytesOf}
 use Rattle.rules.specs.Shape.{shapeOf, keys, goodTable}
 use Rattle.rules.specs.Entry.{Entry, split}
-use Rattle.rules.specs.Table.{occupied, leftGap, clusterEntries}
+use Rattle.rules.specs.Table.{occupiedPlaces, leftGap, clusterEntries}
 use Rattle.rules.specs.Room.{Room, place, full, roomFor}
 use Rattle.rules.specs.Lay.{holds, insert, lay}
 use Rattle.rules.specs.Answer.{Answer, says, refuses, Leaves, leaves}
@@ -24,15 +24,15 @@ layRun p es = lay es p (replicate (length es) true) es
 
 -- the first place of the enlarged cluster: the filled place, or the cluster's own first where the fill is at its right
 unfoldable pub enlargedFrom : List Word → ℕ → ℕ → ℕ
-enlargedFrom ws home p = min p (suc (leftGap (occupied ws) home))
+enlargedFrom ws homeAt p = min p (suc (leftGap (occupiedPlaces ws) homeAt))
 
 -- the table with an absent entry added, its place to fill being p
 unfoldable pub addAt : List Word → Entry → ℕ → List Word
 addAt ws e p =
     sets
     ws
-    (enlargedFrom ws (e .home) p)
-    (layRun (enlargedFrom ws (e .home) p) (insert e (clusterEntries ws (e .home))))
+    (enlargedFrom ws (e .homePlace) p)
+    (layRun (enlargedFrom ws (e .homePlace) p) (insert e (clusterEntries ws (e .homePlace))))
 
 -- an answer with the table unchanged, or with another table
 pub data Outcome : Type 0 where
@@ -45,10 +45,10 @@ addTo ws e full = keeps (refuses 8)
 
 unfoldable pub putIn : Shape → List Word → Entry → Outcome
 putIn sh ws e =
-    cond (soundAround sh ws (e .home))
-    (cond (lockedAround ws (e .home))
+    cond (soundAround sh ws (e .homePlace))
+    (cond (lockedAround ws (e .homePlace))
     (keeps (refuses 7))
-    (cond (holds e (clusterEntries ws (e .home))) (keeps (says 1)) (addTo ws e (roomFor sh (occupied ws) (e .home)))))
+    (cond (holds e (clusterEntries ws (e .homePlace))) (keeps (says 1)) (addTo ws e (roomFor sh (occupiedPlaces ws) (e .homePlace)))))
     (keeps (refuses 6))
 
 -- the words, and the bytes, that an outcome leaves

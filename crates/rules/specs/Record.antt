@@ -9,8 +9,8 @@ use Rattle.rules.specs.Shape.{homes, keys, rightGuard}
 use Rattle.rules.specs.Entry.{split}
 
 -- H, the home place of the record's key
-unfoldable pub homePlace : Shape → Task → ℕ
-homePlace sh t = split sh (t .key) .home
+unfoldable pub homePlaceOf : Shape → Task → ℕ
+homePlaceOf sh t = split sh (t .key) .homePlace
 
 -- a number from one to another, both included
 abbrev pub within : ℕ → ℕ → ℕ → Bool
@@ -42,8 +42,8 @@ fitsHand sh t =
 unfoldable pub fitsBusy : Shape → Task → Bool
 fitsBusy sh t =
     ltb (t .key) (keys sh)
-    && implies (leb 2 (t .phase)) (ltb (t .left) (homePlace sh t))
-    && implies (leb 3 (t .phase)) (within (suc (homePlace sh t)) (rightGuard sh) (t .right))
+    && implies (leb 2 (t .phase)) (ltb (t .left) (homePlaceOf sh t))
+    && implies (leb 3 (t .phase)) (within (suc (homePlaceOf sh t)) (rightGuard sh) (t .right))
     && implies (within 8 10 (t .phase)) (fitsHand sh t)
     && implies (eqb (t .phase) 8) (eqb (t .hand) (t .left) || eqb (t .hand) (t .right))
     && implies (eqb (t .phase) 9) (not (eqb (t .hand) (t .goal)))

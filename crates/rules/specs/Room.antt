@@ -17,11 +17,11 @@ pub data Room : Type 0 where
 
 -- the first empty place to the left; if that is the left guard, to the right; if that is the right guard, none
 unfoldable pub roomBeside : Shape → List Bool → ℕ → Room
-roomBeside sh os home =
-    cond (eqb (leftGap os home) 0)
-    (cond (eqb (rightGap os home) (rightGuard sh)) full (place (rightGap os home)))
-    (place (leftGap os home))
+roomBeside sh os homeAt =
+    cond (eqb (leftGap os homeAt) 0)
+    (cond (eqb (rightGap os homeAt) (rightGuard sh)) full (place (rightGap os homeAt)))
+    (place (leftGap os homeAt))
 
 -- the home's place itself if it is empty
 unfoldable pub roomFor : Shape → List Bool → ℕ → Room
-roomFor sh os home = cond (getD os home false) (roomBeside sh os home) (place home)
+roomFor sh os homeAt = cond (getD os homeAt false) (roomBeside sh os homeAt) (place homeAt)

@@ -19,8 +19,8 @@ abbrev pub at : List Word → ℕ → Word
 at ws p = getD ws p zeroWord
 
 -- which places are occupied, from place 0 on
-unfoldable pub occupied : List Word → List Bool
-occupied ws = map (λ (w : Word). w .occupied) ws
+unfoldable pub occupiedPlaces : List Word → List Bool
+occupiedPlaces ws = map (λ (w : Word). w .occupied) ws
 
 -- the first unoccupied place at or left of a place, from the occupied places alone
 unfoldable pub leftGap : List Bool → ℕ → ℕ
@@ -42,7 +42,7 @@ between ws l r = slice (suc l) r ws
 
 -- a cluster, the maximal run of occupied places about a place: the words between its gaps
 unfoldable pub cluster : List Word → ℕ → List Word
-cluster ws p = between ws (leftGap (occupied ws) p) (rightGap (occupied ws) p)
+cluster ws p = between ws (leftGap (occupiedPlaces ws) p) (rightGap (occupiedPlaces ws) p)
 
 -- the last place has change
 unfoldable pub endsInChange : List Word → Bool
@@ -82,7 +82,7 @@ due true (h ∷ hs) = hs
 -- groups are the runs ended by a change bit: the first belongs to the first home, the second to the next, and so on
 unfoldable pub deal : List ℕ → List Word → List Entry
 deal hs [] = []
-deal hs (w ∷ ws) = record { home = front hs; remainder = w .remainder } ∷ deal (due (w .change) hs) ws
+deal hs (w ∷ ws) = record { homePlace = front hs; remainder = w .remainder } ∷ deal (due (w .change) hs) ws
 
 -- the keys between two places, as entries
 unfoldable pub entriesBetween : List Word → ℕ → ℕ → List Entry
@@ -90,10 +90,10 @@ entriesBetween ws l r = deal (virginPlaces (suc l) (between ws l r)) (between ws
 
 -- the entries of the cluster about a place, and the one at the place itself
 unfoldable pub clusterEntries : List Word → ℕ → List Entry
-clusterEntries ws p = entriesBetween ws (leftGap (occupied ws) p) (rightGap (occupied ws) p)
+clusterEntries ws p = entriesBetween ws (leftGap (occupiedPlaces ws) p) (rightGap (occupiedPlaces ws) p)
 
 unfoldable pub entryAt : List Word → ℕ → Entry
-entryAt ws p = getD (clusterEntries ws p) (p - suc (leftGap (occupied ws) p)) (record { home = 0; remainder = 0 })
+entryAt ws p = getD (clusterEntries ws p) (p - suc (leftGap (occupiedPlaces ws) p)) (record { homePlace = 0; remainder = 0 })
 
 -- the entries at the occupied places, from left to right; `rest` are the words from place p on
 unfoldable pub entriesFrom : List Word → ℕ → List Word → List Entry

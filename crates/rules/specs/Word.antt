@@ -80,8 +80,8 @@ withChange b w =
     }
 
 -- occupied, with a remainder; and a word with the remainder and the change bit of another
-abbrev pub withRemainder : ℕ → Word → Word
-withRemainder x w =
+abbrev pub filledWith : ℕ → Word → Word
+filledWith x w =
     record { remainder = x; occupied = true; virgin = w .virgin; change = w .change; lock = w .lock }
 
 abbrev pub withPayload : Word → Word → Word

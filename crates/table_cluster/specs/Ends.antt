@@ -13,7 +13,7 @@ use lib.Seq.{slice}
 use Rattle.rules.specs.Lists.{bitOf, count}
 use Rattle.rules.specs.Word.{Word, wordOf}
 use Rattle.rules.specs.Bytes.{wordsOf}
-use Rattle.rules.specs.Table.{at, between, occupied, leftGap, rightGap}
+use Rattle.rules.specs.Table.{at, between, occupiedPlaces, leftGap, rightGap}
 use Rattle.theory.specs.Dealt.{isChange, isVirgin, isOccupied}
 use Rattle.theory.specs.Gaps.{leftGap-is, rightGap-is}
 use Rattle.theory.specs.Places.{occupied-at, occupied-length}
@@ -27,15 +27,15 @@ endOf gap ws = record { gap = record { 0 = gap }; virgins = count isVirgin ws; c
 
 -- the left gap, with the bits of the words before the home
 unfoldable pub leftEnd : List Word → ℕ → End
-leftEnd ws home =
-    let l = leftGap (occupied ws) home in
-    endOf l (slice (suc l) home ws)
+leftEnd ws homeAt =
+    let l = leftGap (occupiedPlaces ws) homeAt in
+    endOf l (slice (suc l) homeAt ws)
 
 -- the right gap, with the bits of the whole cluster
 unfoldable pub rightEnd : List Word → ℕ → End
-rightEnd ws home =
-    let l = leftGap (occupied ws) home in
-    let r = rightGap (occupied ws) home in
+rightEnd ws homeAt =
+    let l = leftGap (occupiedPlaces ws) homeAt in
+    let r = rightGap (occupiedPlaces ws) homeAt in
     endOf r (between ws l r)
 
 -- ---- the bits of the words from place a up to b
@@ -101,7 +101,7 @@ module _ {bs : List ℕ} {i w x y : ℕ} (bits : Bits bs i w x y) where
 -- ---- occupied places, by their words
 occupied-here :
     {b : Bool} (bs : List ℕ) (i w : ℕ) → wordOf w ≡ at (wordsOf bs) i → wordOf w .occupied ≡ b →
-    getD (occupied (wordsOf bs)) i false ≡ b
+    getD (occupiedPlaces (wordsOf bs)) i false ≡ b
 occupied-here bs i w word is = occupied-at (wordsOf bs) i ∙ ap isOccupied (sym word) ∙ is
 
 -- the left guard is unoccupied, so an occupied place has one before it
@@ -115,17 +115,17 @@ own-left os zero free = refl
 own-left os (suc i) free = left-stop os (suc i) (omega arith) free
 
 -- ---- to the left: a place that is reached from the home, with the bits of the words between
-pub record Leftward (bs : List ℕ) (home i n m : ℕ) : Type 0 where
-  pub inside : 2 * home + 1 < length bs
-  pub before : i < home
-  pub gap : leftGap (occupied (wordsOf bs)) i ≡ leftGap (occupied (wordsOf bs)) home
-  pub counted : Counted bs (i + 1) home n m
+pub record Leftward (bs : List ℕ) (homeAt i n m : ℕ) : Type 0 where
+  pub inside : 2 * homeAt + 1 < length bs
+  pub before : i < homeAt
+  pub gap : leftGap (occupiedPlaces (wordsOf bs)) i ≡ leftGap (occupiedPlaces (wordsOf bs)) homeAt
+  pub counted : Counted bs (i + 1) homeAt n m
 
 pub left-begins :
     (bs : List ℕ) (i : ℕ) → 2 * (i + 1) + 1 < length bs → at (wordsOf bs) (i + 1) .occupied ≡ true →
     Leftward bs (i + 1) i 0 0
 left-begins bs i within full =
-    let os = occupied (wordsOf bs) in
+    let os = occupiedPlaces (wordsOf bs) in
     let back : i ≡ i + 1 - 1 = omega arith in
     record {
       inside = within;
@@ -134,65 +134,65 @@ left-begins bs i within full =
       counted = counted-none bs (i + 1);
     }
 
-module _ {bs : List ℕ} {home i n m : ℕ} (here : Leftward bs home i n m) (w : ℕ) where
+module _ {bs : List ℕ} {homeAt i n m : ℕ} (here : Leftward bs homeAt i n m) (w : ℕ) where
   pub left-on :
       (x y : ℕ) → Bits bs i w x y → 0 < i → wordOf w .occupied ≡ true →
-      Leftward bs home (i - 1) (n + x) (m + y)
+      Leftward bs homeAt (i - 1) (n + x) (m + y)
   left-on x y bits some full =
       let next : i - 1 + 1 ≡ i = omega arith in
       record {
         inside = here .inside;
         before = omega (arith, here .before);
-        gap = left-step (occupied (wordsOf bs)) i some (occupied-here bs i w (bits .word) full) ∙ here .gap;
+        gap = left-step (occupiedPlaces (wordsOf bs)) i some (occupied-here bs i w (bits .word) full) ∙ here .gap;
         counted = rw next (counted-before bits (here .before) (omega (arith, here .inside)) (here .counted));
       }
 
   pub left-ends :
       wordOf w ≡ at (wordsOf bs) i → wordOf w .occupied ≡ false →
-      record { gap = record { 0 = i }; virgins = n; changes = m } ≡ leftEnd (wordsOf bs) home
+      record { gap = record { 0 = i }; virgins = n; changes = m } ≡ leftEnd (wordsOf bs) homeAt
   unfolding leftEnd
   left-ends word free =
       rw (
         ← here .gap,
-        own-left (occupied (wordsOf bs)) i (occupied-here bs i w word free),
+        own-left (occupiedPlaces (wordsOf bs)) i (occupied-here bs i w word free),
         here .counted .virgins,
         here .counted .changes,
         add-one i,
       )
 
 -- ---- to the right: a place that is reached from the home, with the bits of the cluster's words before it
-pub record Rightward (bs : List ℕ) (home i n m : ℕ) : Type 0 where
+pub record Rightward (bs : List ℕ) (homeAt i n m : ℕ) : Type 0 where
   pub inside : 2 * i + 1 < length bs
-  pub after : leftGap (occupied (wordsOf bs)) home < i
-  pub gap : rightGap (occupied (wordsOf bs)) i ≡ rightGap (occupied (wordsOf bs)) home
-  pub counted : Counted bs (suc (leftGap (occupied (wordsOf bs)) home)) i n m
+  pub after : leftGap (occupiedPlaces (wordsOf bs)) homeAt < i
+  pub gap : rightGap (occupiedPlaces (wordsOf bs)) i ≡ rightGap (occupiedPlaces (wordsOf bs)) homeAt
+  pub counted : Counted bs (suc (leftGap (occupiedPlaces (wordsOf bs)) homeAt)) i n m
 
 -- the right gap of the home is in the table
 abbrev Closed : List ℕ → ℕ → Type 0
-Closed bs home = 2 * rightGap (occupied (wordsOf bs)) home + 1 < length bs
+Closed bs homeAt = 2 * rightGap (occupiedPlaces (wordsOf bs)) homeAt + 1 < length bs
 
 pub right-from : (os : List Bool) (i : ℕ) → i ≤ rightGap os i
 right-from os i = rightGap-is os i .side
 
 left-below :
-    (bs : List ℕ) (home : ℕ) → at (wordsOf bs) 0 .occupied ≡ false → at (wordsOf bs) home .occupied ≡ true →
-    leftGap (occupied (wordsOf bs)) home < home
-left-below bs home free full =
+    (bs : List ℕ) (homeAt : ℕ) → at (wordsOf bs) 0 .occupied ≡ false → at (wordsOf bs) homeAt .occupied ≡ true →
+    leftGap (occupiedPlaces (wordsOf bs)) homeAt < homeAt
+left-below bs homeAt free full =
     let ws = wordsOf bs in
-    let os = occupied ws in
-    let some = some-before ws home free full in
-    let low : leftGap os (home - 1) ≤ home - 1 = leftGap-is os (home - 1) (occupied-at ws 0 ∙ free) .side in
-    omega (arith, some, low, left-step os home some (occupied-at ws home ∙ full))
+    let os = occupiedPlaces ws in
+    let some = some-before ws homeAt free full in
+    let low : leftGap os (homeAt - 1) ≤ homeAt - 1 = leftGap-is os (homeAt - 1) (occupied-at ws 0 ∙ free) .side in
+    omega (arith, some, low, left-step os homeAt some (occupied-at ws homeAt ∙ full))
 
 pub right-begins :
-    (bs : List ℕ) (home : ℕ) → Closed bs home → at (wordsOf bs) 0 .occupied ≡ false →
-    at (wordsOf bs) home .occupied ≡ true → (l : End) → l ≡ leftEnd (wordsOf bs) home →
-    Rightward bs home home (l .virgins) (l .changes)
+    (bs : List ℕ) (homeAt : ℕ) → Closed bs homeAt → at (wordsOf bs) 0 .occupied ≡ false →
+    at (wordsOf bs) homeAt .occupied ≡ true → (l : End) → l ≡ leftEnd (wordsOf bs) homeAt →
+    Rightward bs homeAt homeAt (l .virgins) (l .changes)
 unfolding leftEnd
-right-begins bs home closed free full l is =
+right-begins bs homeAt closed free full l is =
     record {
-      inside = omega (arith, closed, right-from (occupied (wordsOf bs)) home);
-      after = left-below bs home free full;
+      inside = omega (arith, closed, right-from (occupiedPlaces (wordsOf bs)) homeAt);
+      after = left-below bs homeAt free full;
       gap = refl;
       counted =
           record {
@@ -201,15 +201,15 @@ right-begins bs home closed free full l is =
           };
     }
 
-module _ {bs : List ℕ} {home i n m : ℕ} (here : Rightward bs home i n m) (w : ℕ) where
-  within : i < length (occupied (wordsOf bs))
+module _ {bs : List ℕ} {homeAt i n m : ℕ} (here : Rightward bs homeAt i n m) (w : ℕ) where
+  within : i < length (occupiedPlaces (wordsOf bs))
   within = omega (arith, here .inside, occupied-length (wordsOf bs), words-count bs)
 
   pub right-on :
-      (x y : ℕ) → Bits bs i w x y → Closed bs home → wordOf w .occupied ≡ true →
-      Rightward bs home (i + 1) (n + x) (m + y)
+      (x y : ℕ) → Bits bs i w x y → Closed bs homeAt → wordOf w .occupied ≡ true →
+      Rightward bs homeAt (i + 1) (n + x) (m + y)
   right-on x y bits closed full =
-      let os = occupied (wordsOf bs) in
+      let os = occupiedPlaces (wordsOf bs) in
       let same = right-step os i within (occupied-here bs i w (bits .word) full) ∙ here .gap in
       record {
         inside = omega (arith, closed, same, right-from os (i + 1));
@@ -220,12 +220,12 @@ module _ {bs : List ℕ} {home i n m : ℕ} (here : Rightward bs home i n m) (w 
 
   pub right-ends :
       wordOf w ≡ at (wordsOf bs) i → wordOf w .occupied ≡ false →
-      record { gap = record { 0 = i }; virgins = n; changes = m } ≡ rightEnd (wordsOf bs) home
+      record { gap = record { 0 = i }; virgins = n; changes = m } ≡ rightEnd (wordsOf bs) homeAt
   unfolding rightEnd
   right-ends word free =
       rw (
         ← here .gap,
-        right-stop (occupied (wordsOf bs)) i within (occupied-here bs i w word free),
+        right-stop (occupiedPlaces (wordsOf bs)) i within (occupied-here bs i w word free),
         here .counted .virgins,
         here .counted .changes,
       )

@@ -17,7 +17,7 @@ ghost use Rattle.table_cluster.specs.Ends.{leftEnd, rightEnd};
 
 fn taken(table: &[u8], p: Place) -> bool
     requires { ⌜ 2 * p .0 + 1 < length (now table) ⌝ }
-    ensures { λ b. ⌜ b ≡ getD (spec.occupied (wordsOf (now (table .entry)))) (p .0) false ⌝ }
+    ensures { λ b. ⌜ b ≡ getD (spec.occupiedPlaces (wordsOf (now (table .entry)))) (p .0) false ⌝ }
 {
     occupied(word_at(table, p))
 }
@@ -25,7 +25,7 @@ fn taken(table: &[u8], p: Place) -> bool
 // A table that has no gap there ends the search: the place is then the number of its words.
 pub fn right_gap(table: &[u8], p: Place) -> Place
     requires { ⌜ length (now table) ≤ 2097156 ⌝ }
-    ensures { λ q. ⌜ q .0 ≡ rightGap (spec.occupied (wordsOf (now (table .entry)))) (p .0) ⌝ }
+    ensures { λ q. ⌜ q .0 ≡ rightGap (spec.occupiedPlaces (wordsOf (now (table .entry)))) (p .0) ⌝ }
 {
     let end = (table.len() / 2) as u32;
     let mut i = p.0;
@@ -48,13 +48,13 @@ pub struct End {
 
 // The left end: the bits are those of the places after the gap and before the home. The left guard is unoccupied, so
 // no bound is tested.
-pub fn left_end(table: &[u8], home: Place) -> End
-    requires { ⌜ 2 * home .0 + 1 < length (now table) ⌝ }
+pub fn left_end(table: &[u8], h: Place) -> End
+    requires { ⌜ 2 * h .0 + 1 < length (now table) ⌝ }
     requires { ⌜ at (wordsOf (now table)) 0 .occupied ≡ false ⌝ }
-    requires { ⌜ at (wordsOf (now table)) (home .0) .occupied ≡ true ⌝ }
-    ensures { λ e. ⌜ e ≡ leftEnd (wordsOf (now (table .entry))) (home .0) ⌝ }
+    requires { ⌜ at (wordsOf (now table)) (h .0) .occupied ≡ true ⌝ }
+    ensures { λ e. ⌜ e ≡ leftEnd (wordsOf (now (table .entry))) (h .0) ⌝ }
 {
-    let mut i = home.0 - 1;
+    let mut i = h.0 - 1;
     let mut virgins: u32 = 0;
     let mut changes: u32 = 0;
     let mut w = word_at(table, Place(i));
@@ -73,18 +73,18 @@ pub fn left_end(table: &[u8], home: Place) -> End
 
 // The right end, with the bits of the home's side left of it: those of the whole cluster. It lies in the table, so no
 // bound is tested.
-pub fn right_end(table: &[u8], home: Place, l: End) -> End
+pub fn right_end(table: &[u8], h: Place, l: End) -> End
     requires { ⌜ length (now table) ≤ 2097156 ⌝ }
-    requires { ⌜ 2 * rightGap (spec.occupied (wordsOf (now table))) (home .0) + 1 < length (now table) ⌝ }
+    requires { ⌜ 2 * rightGap (spec.occupiedPlaces (wordsOf (now table))) (h .0) + 1 < length (now table) ⌝ }
     requires { ⌜ at (wordsOf (now table)) 0 .occupied ≡ false ⌝ }
-    requires { ⌜ at (wordsOf (now table)) (home .0) .occupied ≡ true ⌝ }
-    requires { ⌜ l ≡ leftEnd (wordsOf (now table)) (home .0) ⌝ }
-    ensures { λ e. ⌜ e ≡ rightEnd (wordsOf (now (table .entry))) (home .0) ⌝ }
+    requires { ⌜ at (wordsOf (now table)) (h .0) .occupied ≡ true ⌝ }
+    requires { ⌜ l ≡ leftEnd (wordsOf (now table)) (h .0) ⌝ }
+    ensures { λ e. ⌜ e ≡ rightEnd (wordsOf (now (table .entry))) (h .0) ⌝ }
 {
-    let mut i = home.0;
+    let mut i = h.0;
     let mut virgins = l.virgins;
     let mut changes = l.changes;
-    let mut w = word_at(table, home);
+    let mut w = word_at(table, h);
     while occupied(w) {
         virgins += bit_of(virgin(w));
         changes += bit_of(change(w));

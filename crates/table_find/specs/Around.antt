@@ -16,7 +16,7 @@ use Rattle.rules.specs.Word.{Word, zeroWord, isVoid}
 use Rattle.rules.specs.Bytes.{wordsOf}
 use Rattle.rules.specs.Shape.{places}
 use Rattle.rules.specs.Entry.{Entry}
-use Rattle.rules.specs.Table.{at, occupied, leftGap, rightGap, between, cluster, soundRun, guardsVoid, locked}
+use Rattle.rules.specs.Table.{at, occupiedPlaces, leftGap, rightGap, between, cluster, soundRun, guardsVoid, locked}
 use Rattle.rules.specs.Table.{endsInChange, rising, deal, entriesBetween, clusterEntries}
 use Rattle.rules.specs.Find.{around, soundAround, lockedAround}
 use Rattle.table_words.specs.Range.{InRange, homes-high}
@@ -29,18 +29,18 @@ use Rattle.table_cluster.specs.Homes.{Housed, sound-housed}
 use Rattle.table_cluster.specs.Scan.{left-stop, right-stop}
 use Rattle.table_read.specs.Read.{readOf}
 use Rattle.table_cluster.specs.Ends.{leftEnd, rightEnd}
-use Rattle.table_read.specs.Beside.{Beside, readFrom, read-from, housed-beside}
+use Rattle.table_read.specs.FromLeft.{LeftCounted, readFrom, read-from, housed-beside}
 use Rattle.table_cluster.specs.Check.{checkOf, soundBetween}
 use Rattle.table_cluster.specs.declared.gaps.End.{End}
 use Rattle.table_read.specs.declared.read.Read.{Read}
 use Rattle.table_cluster.specs.declared.run.Check.{Check}
 
 -- the surroundings are sound and unlocked
-pub record Open (sh : Shape) (ws : List Word) (home : ℕ) : Type 0 where
-  pub sound : soundAround sh ws home ≡ true
-  pub free : lockedAround ws home ≡ false
+pub record Open (sh : Shape) (ws : List Word) (homeAt : ℕ) : Type 0 where
+  pub sound : soundAround sh ws homeAt ≡ true
+  pub free : lockedAround ws homeAt ≡ false
 
-pub open-guards : {sh : Shape} {ws : List Word} {home : ℕ} → Open sh ws home → guardsVoid sh ws ≡ true
+pub open-guards : {sh : Shape} {ws : List Word} {homeAt : ℕ} → Open sh ws homeAt → guardsVoid sh ws ≡ true
 unfolding soundAround
 open-guards {sh} {ws} o = and-left (guardsVoid sh ws) _ (and-left (guardsVoid sh ws && _) _ (o .sound))
 
@@ -48,78 +48,78 @@ pub left-free : (sh : Shape) (ws : List Word) → guardsVoid sh ws ≡ true → 
 unfolding guardsVoid
 left-free sh ws void = void-free (at ws 0) (and-left (isVoid (at ws 0)) _ void)
 
-module _ (sh : Shape) (ws : List Word) (home : ℕ) where
-  pub around-barred : guardsVoid sh ws ≡ false → soundAround sh ws home ≡ false
+module _ (sh : Shape) (ws : List Word) (homeAt : ℕ) where
+  pub around-barred : guardsVoid sh ws ≡ false → soundAround sh ws homeAt ≡ false
   unfolding soundAround
   around-barred barred = rw barred
 
   module _ (void : guardsVoid sh ws ≡ true) where
     -- the cluster and its ends, by a check of them
     pub around-check :
-        checkOf sh ws (leftGap (occupied ws) home) (rightGap (occupied ws) home)
-        ≡ record { sound = soundAround sh ws home; locked = lockedAround ws home }
+        checkOf sh ws (leftGap (occupiedPlaces ws) homeAt) (rightGap (occupiedPlaces ws) homeAt)
+        ≡ record { sound = soundAround sh ws homeAt; locked = lockedAround ws homeAt }
     unfolding checkOf soundBetween soundAround lockedAround around cluster
     around-check = rw void
 
     -- an unoccupied home is its own gap on both sides, with nothing between
-    module _ (size : length ws ≡ places sh) (h : HomePlace sh home) (empty : at ws home .occupied ≡ false) where
-      own-left : leftGap (occupied ws) home ≡ home
-      own-left = left-stop (occupied ws) home (h .first) (occupied-at ws home ∙ empty)
+    module _ (size : length ws ≡ places sh) (h : HomePlace sh homeAt) (empty : at ws homeAt .occupied ≡ false) where
+      own-left : leftGap (occupiedPlaces ws) homeAt ≡ homeAt
+      own-left = left-stop (occupiedPlaces ws) homeAt (h .first) (occupied-at ws homeAt ∙ empty)
 
-      own-right : rightGap (occupied ws) home ≡ home
+      own-right : rightGap (occupiedPlaces ws) homeAt ≡ homeAt
       unfolding places
       own-right =
           right-stop
-          (occupied ws)
-          home
+          (occupiedPlaces ws)
+          homeAt
           (omega (arith, occupied-length ws, size, h .last))
-          (occupied-at ws home ∙ empty)
+          (occupied-at ws homeAt ∙ empty)
 
-      none-between : between ws home home ≡ []
-      none-between = drop-of-length-le (take home ws) {i = suc home} (omega (arith, length-take home ws))
+      none-between : between ws homeAt homeAt ≡ []
+      none-between = drop-of-length-le (take homeAt ws) {i = suc homeAt} (omega (arith, length-take homeAt ws))
 
-      pub alone-sound : soundAround sh ws home ≡ isVoid (at ws home)
+      pub alone-sound : soundAround sh ws homeAt ≡ isVoid (at ws homeAt)
       unfolding soundAround cluster soundRun count all rising endsInChange
-      alone-sound = rw (void, own-left, own-right, none-between) (twice (isVoid (at ws home)))
+      alone-sound = rw (void, own-left, own-right, none-between) (twice (isVoid (at ws homeAt)))
         where
           twice : (v : Bool) → (v && v && true) ≡ v
           twice true = refl
           twice false = refl
 
-      pub alone-locked : lockedAround ws home ≡ at ws home .lock
+      pub alone-locked : lockedAround ws homeAt ≡ at ws homeAt .lock
       unfolding lockedAround around locked any places
       alone-locked =
           rw (
             own-left,
             own-right,
-            slice-cons home (suc home) ws zeroWord (omega arith) (omega (arith, size, h .last)),
-            slice-empty (suc home) ws,
+            slice-cons homeAt (suc homeAt) ws zeroWord (omega arith) (omega (arith, size, h .last)),
+            slice-empty (suc homeAt) ws,
           )
-          (once (at ws home .lock))
+          (once (at ws homeAt .lock))
         where
           once : (l : Bool) → (l || false) ≡ l
           once true = refl
           once false = refl
 
-      pub alone-entries : clusterEntries ws home ≡ []
+      pub alone-entries : clusterEntries ws homeAt ≡ []
       unfolding clusterEntries entriesBetween deal
       alone-entries = rw (own-left, own-right, none-between)
 
 -- ---- a cluster, and a read of it from its left end
-pub record Inside (sh : Shape) (ws : List Word) (home : ℕ) : Type 0 where
-  pub after : leftGap (occupied ws) home < home
-  pub before : home < rightGap (occupied ws) home
-  pub low : rightGap (occupied ws) home < places sh
-  pub housed : Housed (between ws (leftGap (occupied ws) home) (rightGap (occupied ws) home))
+pub record Inside (sh : Shape) (ws : List Word) (homeAt : ℕ) : Type 0 where
+  pub after : leftGap (occupiedPlaces ws) homeAt < homeAt
+  pub before : homeAt < rightGap (occupiedPlaces ws) homeAt
+  pub low : rightGap (occupiedPlaces ws) homeAt < places sh
+  pub housed : Housed (between ws (leftGap (occupiedPlaces ws) homeAt) (rightGap (occupiedPlaces ws) homeAt))
 
-module _ {sh : Shape} {ws : List Word} {home : ℕ} (size : length ws ≡ places sh) (h : HomePlace sh home)
-    (full : at ws home .occupied ≡ true)
+module _ {sh : Shape} {ws : List Word} {homeAt : ℕ} (size : length ws ≡ places sh) (h : HomePlace sh homeAt)
+    (full : at ws homeAt .occupied ≡ true)
   where
     -- void guards bound it
-    pub cluster-cut : guardsVoid sh ws ≡ true → CutHome ws home
-    cluster-cut void = cut-home sh ws home size void h full
+    pub cluster-cut : guardsVoid sh ws ≡ true → CutHome ws homeAt
+    cluster-cut void = cut-home sh ws homeAt size void h full
 
-    pub cluster-inside : Open sh ws home → Inside sh ws home
+    pub cluster-inside : Open sh ws homeAt → Inside sh ws homeAt
     unfolding soundAround cluster
     cluster-inside o =
         let cut = cluster-cut (open-guards o) in
@@ -127,17 +127,17 @@ module _ {sh : Shape} {ws : List Word} {home : ℕ} (size : length ws ≡ places
           after = cut .after;
           before = cut .before;
           low = omega (arith, cut .inside);
-          housed = sound-housed sh (cluster ws home) (and-right (guardsVoid sh ws && _) _ (o .sound));
+          housed = sound-housed sh (cluster ws homeAt) (and-right (guardsVoid sh ws && _) _ (o .sound));
         }
 
 module _ {sh : Shape} (bs : List ℕ) (e : Entry) (range : InRange sh) (even : length bs ≡ 2 * places sh)
-    (i : Inside sh (wordsOf bs) (e .home))
+    (i : Inside sh (wordsOf bs) (e .homePlace))
   where
     abbrev l : ℕ
-    l = leftGap (occupied (wordsOf bs)) (e .home)
+    l = leftGap (occupiedPlaces (wordsOf bs)) (e .homePlace)
 
     abbrev r : ℕ
-    r = rightGap (occupied (wordsOf bs)) (e .home)
+    r = rightGap (occupiedPlaces (wordsOf bs)) (e .homePlace)
 
     within : 2 * r < length bs
     within = omega (arith, i .low)
@@ -146,20 +146,20 @@ module _ {sh : Shape} (bs : List ℕ) (e : Entry) (range : InRange sh) (even : l
     unfolding places
     small = omega (arith, i .low, homes-high sh range)
 
-    read-cluster : readFrom bs l e ≡ readOf e (clusterEntries (wordsOf bs) (e .home))
+    read-cluster : readFrom bs l e ≡ readOf e (clusterEntries (wordsOf bs) (e .homePlace))
     unfolding clusterEntries
     read-cluster =
         read-from e bs l r (i .after) (i .before) (omega (arith, within)) (omega (arith, small)) (i .housed)
 
     -- the same of a read from the left end that was found
     pub read-beside :
-        (end : End) (read : Read) → end ≡ leftEnd (wordsOf bs) (e .home) → read ≡ readFrom bs (end .gap .0) e →
-        read ≡ readOf e (clusterEntries (wordsOf bs) (e .home))
+        (end : End) (read : Read) → end ≡ leftEnd (wordsOf bs) (e .homePlace) → read ≡ readFrom bs (end .gap .0) e →
+        read ≡ readOf e (clusterEntries (wordsOf bs) (e .homePlace))
     unfolding leftEnd
     read-beside end read is reads =
         reads ∙ ap (λ (a : End). readFrom bs (a .gap .0) e) is ∙ read-cluster
 
-    pub beside-cluster : (end : End) → end ≡ leftEnd (wordsOf bs) (e .home) → Beside bs end (e .home)
+    pub beside-cluster : (end : End) → end ≡ leftEnd (wordsOf bs) (e .homePlace) → LeftCounted bs end (e .homePlace)
     unfolding leftEnd
     beside-cluster end is =
         housed-beside
@@ -178,21 +178,21 @@ module _ {sh : Shape} (bs : List ℕ) (e : Entry) (range : InRange sh) (even : l
         (ap (λ (a : End). a .changes) is ∙ rw add-one)
 
 -- ---- an occupied home between void guards, as find and put come to it: what they ask for, and what the check tells
-pub record Crowded (sh : Shape) (bs : List ℕ) (home : ℕ) : Type 0 where
+pub record Crowded (sh : Shape) (bs : List ℕ) (homeAt : ℕ) : Type 0 where
   pub range : InRange sh
   pub even : length bs ≡ 2 * places sh
-  pub home-place : HomePlace sh home
+  pub home-place : HomePlace sh homeAt
   pub void : guardsVoid sh (wordsOf bs) ≡ true
-  pub full : at (wordsOf bs) home .occupied ≡ true
+  pub full : at (wordsOf bs) homeAt .occupied ≡ true
 
-module _ {sh : Shape} {bs : List ℕ} {home : ℕ} (c : Crowded sh bs home) where
+module _ {sh : Shape} {bs : List ℕ} {homeAt : ℕ} (c : Crowded sh bs homeAt) where
   size : length (wordsOf bs) ≡ places sh
   size = words-length bs (places sh) (c .even)
 
-  cut : CutHome (wordsOf bs) home
+  cut : CutHome (wordsOf bs) homeAt
   cut = cluster-cut size (c .home-place) (c .full) (c .void)
 
-  pub home-inside : 2 * home + 1 < length bs
+  pub home-inside : 2 * homeAt + 1 < length bs
   unfolding places
   home-inside = omega (arith, c .even, c .home-place .last)
 
@@ -203,15 +203,15 @@ module _ {sh : Shape} {bs : List ℕ} {home : ℕ} (c : Crowded sh bs home) wher
   unfolding places
   table-small = omega (arith, c .even, homes-high sh (c .range))
 
-  pub gap-inside : 2 * rightGap (occupied (wordsOf bs)) home + 1 < length bs
+  pub gap-inside : 2 * rightGap (occupiedPlaces (wordsOf bs)) homeAt + 1 < length bs
   gap-inside = omega (arith, cut .inside, size, c .even)
 
-  module _ (l r : End) (left : l ≡ leftEnd (wordsOf bs) home) (right : r ≡ rightEnd (wordsOf bs) home) where
-    left-gap : l .gap .0 ≡ leftGap (occupied (wordsOf bs)) home
+  module _ (l r : End) (left : l ≡ leftEnd (wordsOf bs) homeAt) (right : r ≡ rightEnd (wordsOf bs) homeAt) where
+    left-gap : l .gap .0 ≡ leftGap (occupiedPlaces (wordsOf bs)) homeAt
     unfolding leftEnd
     left-gap = ap (λ (a : End). a .gap .0) left
 
-    right-gap : r .gap .0 ≡ rightGap (occupied (wordsOf bs)) home
+    right-gap : r .gap .0 ≡ rightGap (occupiedPlaces (wordsOf bs)) homeAt
     unfolding rightEnd
     right-gap = ap (λ (a : End). a .gap .0) right
 
@@ -231,27 +231,27 @@ module _ {sh : Shape} {bs : List ℕ} {home : ℕ} (c : Crowded sh bs home) wher
 
     checked :
         (run : Check) → run ≡ checkOf sh (wordsOf bs) (l .gap .0) (r .gap .0) →
-        run ≡ record { sound = soundAround sh (wordsOf bs) home; locked = lockedAround (wordsOf bs) home }
+        run ≡ record { sound = soundAround sh (wordsOf bs) homeAt; locked = lockedAround (wordsOf bs) homeAt }
     checked run is =
         is
         ∙ ap₂ (checkOf sh (wordsOf bs)) left-gap right-gap
-        ∙ around-check sh (wordsOf bs) home (c .void)
+        ∙ around-check sh (wordsOf bs) homeAt (c .void)
 
     pub told-sound :
         (run : Check) → run ≡ checkOf sh (wordsOf bs) (l .gap .0) (r .gap .0) →
-        run .sound ≡ soundAround sh (wordsOf bs) home
+        run .sound ≡ soundAround sh (wordsOf bs) homeAt
     told-sound run is = ap (λ (a : Check). a .sound) (checked run is)
 
     pub told-locked :
         (run : Check) → run ≡ checkOf sh (wordsOf bs) (l .gap .0) (r .gap .0) →
-        run .locked ≡ lockedAround (wordsOf bs) home
+        run .locked ≡ lockedAround (wordsOf bs) homeAt
     told-locked run is = ap (λ (a : Check). a .locked) (checked run is)
 
     pub told-open :
         (run : Check) → run ≡ checkOf sh (wordsOf bs) (l .gap .0) (r .gap .0) → run .sound ≡ true →
-        run .locked ≡ false → Open sh (wordsOf bs) home
+        run .locked ≡ false → Open sh (wordsOf bs) homeAt
     told-open run is sound free =
         record { sound = sym (told-sound run is) ∙ sound; free = sym (told-locked run is) ∙ free }
 
-  pub crowded-inside : Open sh (wordsOf bs) home → Inside sh (wordsOf bs) home
+  pub crowded-inside : Open sh (wordsOf bs) homeAt → Inside sh (wordsOf bs) homeAt
   crowded-inside o = cluster-inside size (c .home-place) (c .full) o

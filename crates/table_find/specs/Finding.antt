@@ -23,29 +23,29 @@ aloneSays w = cond (isVoid w) (cond (w .lock) (refuses 7) (says 0)) (refuses 6)
 module _ (sh : Shape) (ws : List Word) (e : Entry) where
   pub found-barred : guardsVoid sh ws ≡ false → findIn sh ws e ≡ refuses 6
   unfolding findIn
-  found-barred barred = rw (around-barred sh ws (e .home) barred)
+  found-barred barred = rw (around-barred sh ws (e .homePlace) barred)
 
   pub found-alone :
-      guardsVoid sh ws ≡ true → length ws ≡ places sh → HomePlace sh (e .home) → at ws (e .home) .occupied ≡ false →
-      findIn sh ws e ≡ aloneSays (at ws (e .home))
+      guardsVoid sh ws ≡ true → length ws ≡ places sh → HomePlace sh (e .homePlace) → at ws (e .homePlace) .occupied ≡ false →
+      findIn sh ws e ≡ aloneSays (at ws (e .homePlace))
   unfolding findIn holds any
   found-alone void size h empty =
       rw (
-        alone-sound sh ws (e .home) void size h empty,
-        alone-locked sh ws (e .home) void size h empty,
-        alone-entries sh ws (e .home) void size h empty,
+        alone-sound sh ws (e .homePlace) void size h empty,
+        alone-locked sh ws (e .homePlace) void size h empty,
+        alone-entries sh ws (e .homePlace) void size h empty,
       )
 
-  pub found-unsound : soundAround sh ws (e .home) ≡ false → findIn sh ws e ≡ refuses 6
+  pub found-unsound : soundAround sh ws (e .homePlace) ≡ false → findIn sh ws e ≡ refuses 6
   unfolding findIn
   found-unsound s = rw s
 
   pub found-locked :
-      soundAround sh ws (e .home) ≡ true → lockedAround ws (e .home) ≡ true → findIn sh ws e ≡ refuses 7
+      soundAround sh ws (e .homePlace) ≡ true → lockedAround ws (e .homePlace) ≡ true → findIn sh ws e ≡ refuses 7
   unfolding findIn
   found-locked s l = rw (s, l)
 
   pub found-inside :
-      Open sh ws (e .home) → findIn sh ws e ≡ says (bitOf (holds e (clusterEntries ws (e .home))))
+      Open sh ws (e .homePlace) → findIn sh ws e ≡ says (bitOf (holds e (clusterEntries ws (e .homePlace))))
   unfolding findIn
   found-inside o = rw (o .sound, o .free)

@@ -10,13 +10,13 @@ use Rattle.theory.specs.Dealt.{entry-path}
 use Rattle.theory.specs.Gaps.{HomePlace}
 use Rattle.table_read.specs.Read.{entry}
 
-module _ (sh : Shape) (key home x : ℕ) (placed : home ≡ split sh key .home) (rest : x ≡ remainderOf sh key) where
-  pub key-entry : entry home x ≡ split sh key
+module _ (sh : Shape) (key homeAt x : ℕ) (placed : homeAt ≡ split sh key .homePlace) (rest : x ≡ remainderOf sh key) where
+  pub key-entry : entry homeAt x ≡ split sh key
   unfolding split
   key-entry = entry-path placed rest
 
-  pub key-shape : key < keys sh → InShape sh (entry home x)
+  pub key-shape : key < keys sh → InShape sh (entry homeAt x)
   key-shape low = subst (InShape sh) (sym key-entry) (split-in-shape sh key low)
 
-pub home-place : {sh : Shape} {e : Entry} → InShape sh e → HomePlace sh (e .home)
+pub home-place : {sh : Shape} {e : Entry} → InShape sh e → HomePlace sh (e .homePlace)
 home-place i = record { first = i .home-low; last = i .home-high }

@@ -34,7 +34,7 @@ ghost use Rattle.rules.specs.Find.{findIn, find as spec-find};
 ghost use Rattle.table_words.specs.Range.{InRange};
 ghost use Rattle.table_words.specs.Split.{InShape};
 ghost use Rattle.table_read.specs.Read.{entry};
-ghost use Rattle.table_read.specs.Beside.{Beside, readFrom};
+ghost use Rattle.table_read.specs.FromLeft.{LeftCounted, readFrom};
 ghost use Rattle.table_find.specs.Finding.{aloneSays};
 
 // At an empty home, by its word.
@@ -53,13 +53,13 @@ fn find_alone(w: u16) -> FindAnswer
 }
 
 // In a cluster that may be read from its left end.
-fn find_beside(table: &[u8], l: End, home: Place, x: u16) -> FindAnswer
-    requires { ⌜ Beside (now table) l (home .0) ⌝ }
+fn find_beside(table: &[u8], l: End, h: Place, x: u16) -> FindAnswer
+    requires { ⌜ LeftCounted (now table) l (h .0) ⌝ }
     ensures { λ a. ⌜ findSays a
-        ≡ says (bitOf (readFrom (now (table .entry)) (l .gap .0) (entry (home .0) x) .held)) ⌝ }
+        ≡ says (bitOf (readFrom (now (table .entry)) (l .gap .0) (entry (h .0) x) .held)) ⌝ }
 {
-    let p = group_start(table, l, home);
-    let read = read_from(table, l.gap, p, home, x);
+    let p = group_start(table, l, h);
+    let read = read_from(table, l.gap, p, h, x);
     if read.held {
         FindAnswer::Present
     } else {
@@ -68,34 +68,34 @@ fn find_beside(table: &[u8], l: End, home: Place, x: u16) -> FindAnswer
 }
 
 // In the cluster of an occupied home: soundness, then the locks, then the key.
-fn find_cluster(sh: Shape, table: &[u8], home: Place, x: u16) -> FindAnswer
-    requires { ⌜ InRange sh ⌝ ∗ ⌜ length (now table) ≡ 2 * places sh ⌝ ∗ ⌜ InShape sh (entry (home .0) x) ⌝ }
+fn find_cluster(sh: Shape, table: &[u8], h: Place, x: u16) -> FindAnswer
+    requires { ⌜ InRange sh ⌝ ∗ ⌜ length (now table) ≡ 2 * places sh ⌝ ∗ ⌜ InShape sh (entry (h .0) x) ⌝ }
     requires { ⌜ guardsVoid sh (wordsOf (now table)) ≡ true ⌝ }
-    requires { ⌜ at (wordsOf (now table)) (home .0) .occupied ≡ true ⌝ }
-    ensures { λ a. ⌜ findSays a ≡ findIn sh (wordsOf (now (table .entry))) (entry (home .0) x) ⌝ }
+    requires { ⌜ at (wordsOf (now table)) (h .0) .occupied ≡ true ⌝ }
+    ensures { λ a. ⌜ findSays a ≡ findIn sh (wordsOf (now (table .entry))) (entry (h .0) x) ⌝ }
 {
-    let l = left_end(table, home);
-    let r = right_end(table, home, l);
+    let l = left_end(table, h);
+    let r = right_end(table, h, l);
     let run = check_run(sh, table, l.gap, r);
     if run.sound {
         if run.locked {
             FindAnswer::Refused(Refusal::Locked)
         } else {
-            find_beside(table, l, home, x)
+            find_beside(table, l, h, x)
         }
     } else {
         FindAnswer::Refused(Refusal::Unsound)
     }
 }
 
-fn find_at(sh: Shape, table: &[u8], home: Place, x: u16) -> FindAnswer
-    requires { ⌜ InRange sh ⌝ ∗ ⌜ length (now table) ≡ 2 * places sh ⌝ ∗ ⌜ InShape sh (entry (home .0) x) ⌝ }
-    ensures { λ a. ⌜ findSays a ≡ findIn sh (wordsOf (now (table .entry))) (entry (home .0) x) ⌝ }
+fn find_at(sh: Shape, table: &[u8], h: Place, x: u16) -> FindAnswer
+    requires { ⌜ InRange sh ⌝ ∗ ⌜ length (now table) ≡ 2 * places sh ⌝ ∗ ⌜ InShape sh (entry (h .0) x) ⌝ }
+    ensures { λ a. ⌜ findSays a ≡ findIn sh (wordsOf (now (table .entry))) (entry (h .0) x) ⌝ }
 {
     if guards_void(sh, table) {
-        let w = word_at(table, home);
+        let w = word_at(table, h);
         if occupied(w) {
-            find_cluster(sh, table, home, x)
+            find_cluster(sh, table, h, x)
         } else {
             find_alone(w)
         }

@@ -30,7 +30,7 @@ unfoldable pub dealOccupied : List ℕ → List Word → List Entry
 dealOccupied hs [] = []
 dealOccupied hs (w ∷ ws) =
     cond (w .occupied)
-    (record { home = front hs; remainder = w .remainder } ∷ dealOccupied (due (w .change) hs) ws)
+    (record { homePlace = front hs; remainder = w .remainder } ∷ dealOccupied (due (w .change) hs) ws)
     (dealOccupied hs ws)
 
 -- one entry for each occupied word
@@ -46,7 +46,7 @@ queue-length hs (w ∷ ws) = go (w .occupied) (queue-length hs ws) (queue-length
         length
         (cond
         b
-        (record { home = front hs; remainder = w .remainder } ∷ dealOccupied (due (w .change) hs) ws)
+        (record { homePlace = front hs; remainder = w .remainder } ∷ dealOccupied (due (w .change) hs) ws)
         (dealOccupied hs ws))
         ≡ bitOf b + count isOccupied ws
     go true e f = omega arith
@@ -57,7 +57,7 @@ pub queue-taken :
     (hs : List ℕ) (w : Word) (ws : List Word) →
     w .occupied ≡ true →
     dealOccupied hs (w ∷ ws)
-    ≡ record { home = front hs; remainder = w .remainder } ∷ dealOccupied (due (w .change) hs) ws
+    ≡ record { homePlace = front hs; remainder = w .remainder } ∷ dealOccupied (due (w .change) hs) ws
 unfolding dealOccupied
 queue-taken hs w ws e = rw e
 

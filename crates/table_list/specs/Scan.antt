@@ -140,7 +140,7 @@ met bs r hs i within = go (r - i) i refl
 module _ (bs : List ℕ) (r v i : ℕ) (e : Entry) (es : List Entry)
     (inside : 2 * r ≤ length bs)
     (left : dealOccupied (homesFrom (wordsOf bs) r v) (slice i r (wordsOf bs)) ≡ e ∷ es)
-    (housed : 1 ≤ e .home)
+    (housed : 1 ≤ e .homePlace)
   where
     abbrev hs : List ℕ
     hs = homesFrom (wordsOf bs) r v
@@ -159,7 +159,7 @@ module _ (bs : List ℕ) (r v i : ℕ) (e : Entry) (es : List Entry)
 
     -- the next word's entry is the next one
     cards :
-        record { home = front hs; remainder = u .remainder }
+        record { homePlace = front hs; remainder = u .remainder }
         ∷ dealOccupied (due (u .change) hs) (slice (q + 1) r (wordsOf bs))
         ≡ e ∷ es
     cards =
@@ -171,16 +171,16 @@ module _ (bs : List ℕ) (r v i : ℕ) (e : Entry) (es : List Entry)
     -- the entry has a home, so one is left
     pub turn : Due bs r hs
     turn =
-        let dealt : record { home = front hs; remainder = u .remainder } ≡ e = cc cards in
-        due-home bs v r inside (some hs (ap (λ (f : Entry). f .home) dealt))
+        let dealt : record { homePlace = front hs; remainder = u .remainder } ≡ e = cc cards in
+        due-home bs v r inside (some hs (ap (λ (f : Entry). f .homePlace) dealt))
       where
-        some : (gs : List ℕ) → front gs ≡ e .home → 0 < length gs
+        some : (gs : List ℕ) → front gs ≡ e .homePlace → 0 < length gs
         some [] p = absurd (omega arith)
         some (g ∷ gs) p = omega arith
 
-    pub next-entry : record { home = firstOf r hs; remainder = u .remainder } ≡ e
+    pub next-entry : record { homePlace = firstOf r hs; remainder = u .remainder } ≡ e
     next-entry =
-        let dealt : record { home = front hs; remainder = u .remainder } ≡ e = cc cards in
+        let dealt : record { homePlace = front hs; remainder = u .remainder } ≡ e = cc cards in
         entry-path (sym (ap front (turn .first))) refl ∙ dealt
 
     pub next-left :

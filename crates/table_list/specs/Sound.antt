@@ -15,7 +15,7 @@ use Rattle.rules.specs.declared.Shape.{Shape}
 use Rattle.rules.specs.Lists.{count, all}
 use Rattle.rules.specs.Word.{Word, zeroWord, isVoid}
 use Rattle.rules.specs.Shape.{remainders, places, rightGuard}
-use Rattle.rules.specs.Table.{at, occupied, rightGap, between, soundRun, soundAt, soundFrom, guardsVoid, sound}
+use Rattle.rules.specs.Table.{at, occupiedPlaces, rightGap, between, soundRun, soundAt, soundFrom, guardsVoid, sound}
 use Rattle.theory.specs.Dealt.{isVirgin, isOccupied, isLow, and-left, and-right, and-both}
 use Rattle.theory.specs.Gaps.{Gap, Guarded, rightGap-is, gap-first, gap-above}
 use Rattle.theory.specs.Gaps as gaps
@@ -77,7 +77,7 @@ sound-guards sh ws s size = same-truth _ _ to back
 module _ (sh : Shape) (ws : List Word) (l r : ℕ)
     (origin : at ws 0 .occupied ≡ false)
     (free : at ws l .occupied ≡ false)
-    (gap : Gap gaps.right (occupied ws) (suc l) r)
+    (gap : Gap gaps.right (occupiedPlaces ws) (suc l) r)
     (inside : r < length ws)
   where
     abbrev u : List Word
@@ -155,7 +155,7 @@ module _ (sh : Shape) (ws : List Word) (l r : ℕ)
 
 -- ---- from gap to gap
 module _ (sh : Shape) (ws : List Word) (size : length ws ≡ places sh) (void : guardsVoid sh ws ≡ true) where
-  guarded : Guarded sh (occupied ws)
+  guarded : Guarded sh (occupiedPlaces ws)
   guarded = void-guarded sh ws size void
 
   origin-free : at ws 0 .occupied ≡ false
@@ -177,10 +177,10 @@ module _ (sh : Shape) (ws : List Word) (size : length ws ≡ places sh) (void : 
       go (ltb l (rightGuard sh)) refl (λ r j ahead empty. fine-after f r j (omega arith) empty)
     where
       r : ℕ
-      r = rightGap (occupied ws) (suc l)
+      r = rightGap (occupiedPlaces ws) (suc l)
 
-      next : Gap gaps.right (occupied ws) (suc l) r
-      next = rightGap-is (occupied ws) (suc l)
+      next : Gap gaps.right (occupiedPlaces ws) (suc l) r
+      next = rightGap-is (occupiedPlaces ws) (suc l)
 
       go :
           (b : Bool) → ltb l (rightGuard sh) ≡ b →

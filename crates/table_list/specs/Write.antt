@@ -51,7 +51,7 @@ front-step ks ts k z here room =
     ∙ sym (append-assoc (take k ks) (getD ks k z ∷ []) (drop (suc k) ts)))
 
 abbrev no-entry : Entry
-no-entry = record { home = 0; remainder = 0 }
+no-entry = record { homePlace = 0; remainder = 0 }
 
 -- k keys are written; h is the home and p the place of the last of them, w the word there
 pub record Writing (sh : Shape) (bs : List ℕ) (slots₀ : List ℕ) (h p w k : ℕ) (slots : List ℕ) : Type 0 where
@@ -157,7 +157,7 @@ module _ {sh : Shape} {bs : List ℕ} {n : ℕ} {slots₀ : List ℕ} (given : L
     key-inside = word-inside bs r v (p + 1) e es within left (shaped .home-low)
 
     module _ (g q x y : ℕ)
-        (home : g ≡ homeFrom (wordsOf bs) (h + bitOf (wordOf w .change)))
+        (homeAt : g ≡ homeFrom (wordsOf bs) (h + bitOf (wordOf w .change)))
         (found : q ≡ keyFrom (wordsOf bs) (p + 1))
         (word : wordOf x ≡ at (wordsOf bs) q)
         (remainder : y ≡ wordOf x .remainder)
@@ -165,17 +165,17 @@ module _ {sh : Shape} {bs : List ℕ} {n : ℕ} {slots₀ : List ℕ} (given : L
         there : wordOf x ≡ at (wordsOf bs) (keyFrom (wordsOf bs) (p + 1))
         there = word ∙ ap (at (wordsOf bs)) found
 
-        same-entry : record { home = g; remainder = y } ≡ e
+        same-entry : record { homePlace = g; remainder = y } ≡ e
         same-entry =
-            entry-path home (remainder ∙ ap (λ (u : Word). u .remainder) there)
+            entry-path homeAt (remainder ∙ ap (λ (u : Word). u .remainder) there)
             ∙ next-entry bs r v (p + 1) e es within left (shaped .home-low)
 
-        pub entry-shaped : InShape sh (record { home = g; remainder = y })
+        pub entry-shaped : InShape sh (record { homePlace = g; remainder = y })
         entry-shaped = rw same-entry shaped
 
         pub write-on :
             (key : ℕ) →
-            key ≡ join sh (record { home = g; remainder = y }) → Writing sh bs slots₀ g q x (k + 1) (set slots k key)
+            key ≡ join sh (record { homePlace = g; remainder = y }) → Writing sh bs slots₀ g q x (k + 1) (set slots k key)
         unfolding list
         write-on key joined =
             record {
@@ -185,9 +185,9 @@ module _ {sh : Shape} {bs : List ℕ} {n : ℕ} {slots₀ : List ℕ} (given : L
                   ap₂ (λ (t : List ℕ) (n : ℕ). set t k n) (s .written) key-is
                   ∙ front-step (list sh (wordsOf bs)) slots₀ k (join sh no-entry) (omega arith) (omega arith);
               left =
-                  rw (home, found, there) (next-left bs r v (p + 1) e es within left (shaped .home-low))
+                  rw (homeAt, found, there) (next-left bs r v (p + 1) e es within left (shaped .home-low))
                   ∙ ap (λ (n : ℕ). drop n (entries (wordsOf bs))) (sym (add-one k));
-              here = λ goes. rw home (ap (firstOf r) (home-due .same));
+              here = λ goes. rw homeAt (ap (firstOf r) (home-due .same));
             }
           where
             key-is : key ≡ getD (list sh (wordsOf bs)) k (join sh no-entry)

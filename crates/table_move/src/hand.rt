@@ -2,8 +2,8 @@
 use table_words::bytes::set_word;
 use table_words::bytes::word_at;
 use table_words::place::Place;
+use table_words::word::filled_with;
 use table_words::word::with_payload;
-use table_words::word::with_remainder;
 ghost use mathlib.Core.Path.{_≡_};
 ghost use Prim.Native.Nat.{_+_, _*_, _≤_, _<_};
 ghost use lib.ListN.{length};
@@ -18,7 +18,7 @@ pub fn fill_at(table: &mut [u8], p: Place, x: u16)
     ensures { λ _. ⌜ wordsOf (now (table .exit)) ≡ fillAt x (wordsOf (now (table .entry))) (p .0) ⌝ }
 {
     let w = word_at(table, p);
-    set_word(table, p, with_remainder(x, w));
+    set_word(table, p, filled_with(x, w));
 }
 
 pub fn exchange(table: &mut [u8], p: Place, q: Place)

@@ -27,14 +27,14 @@ fn set_virgin(table: &mut [u8], p: Place)
 }
 
 // 2: a new group, ended at goal and with its home marked; 1: a group's new last key; else nothing.
-pub fn mark(table: &mut [u8], mark: u8, goal: Place, home: Place)
-    requires { ⌜ 2 * goal .0 + 1 < length (now table) ⌝ ∗ ⌜ 2 * home .0 + 1 < length (now table) ⌝
+pub fn mark(table: &mut [u8], mark: u8, goal: Place, h: Place)
+    requires { ⌜ 2 * goal .0 + 1 < length (now table) ⌝ ∗ ⌜ 2 * h .0 + 1 < length (now table) ⌝
         ∗ ⌜ (mark ≡ 1 → 0 < goal .0) ⌝ }
-    ensures { λ _. ⌜ wordsOf (now (table .exit)) ≡ marked (wordsOf (now (table .entry))) mark (goal .0) (home .0) ⌝ }
+    ensures { λ _. ⌜ wordsOf (now (table .exit)) ≡ marked (wordsOf (now (table .entry))) mark (goal .0) (h .0) ⌝ }
 {
     if mark == 2 {
         set_change(table, goal, true);
-        set_virgin(table, home);
+        set_virgin(table, h);
         return;
     } else {
         if mark == 1 {

@@ -129,7 +129,7 @@ record Shown (sh : Shape) (vs : List Word) (old es : List Entry) : Type 0 where
 
 within-home :
     {sh : Shape} {e : Entry} →
-    remainders sh ≤ 4096 → Within (remainders sh) (rightGuard sh) 4096 e → HomePlace sh (e .home)
+    remainders sh ≤ 4096 → Within (remainders sh) (rightGuard sh) 4096 e → HomePlace sh (e .homePlace)
 unfolding rightGuard
 within-home s w = record { first = omega (arith, w .above, w .low); last = omega (arith, w .inside) }
 
@@ -274,7 +274,7 @@ key-clean sh range ws vs key low c b made room =
 
 -- so the surroundings of a home are sound and unlocked
 module _ {sh : Shape} {ws : List Word} (e : Entry) (range : InRange sh) (i : InShape sh e) (c : Clean sh ws) where
-  around-sound : soundAround sh ws (e .home) ≡ true
+  around-sound : soundAround sh ws (e .homePlace) ≡ true
   around-sound =
       surroundings
       sh
@@ -286,5 +286,5 @@ module _ {sh : Shape} {ws : List Word} (e : Entry) (range : InRange sh) (i : InS
       (c .state .table)
       .sound
 
-  pub clean-open : Open sh ws (e .home)
-  clean-open = record { sound = around-sound; free = around-free ws (e .home) (c .state .free) }
+  pub clean-open : Open sh ws (e .homePlace)
+  clean-open = record { sound = around-sound; free = around-free ws (e .homePlace) (c .state .free) }

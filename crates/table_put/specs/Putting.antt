@@ -16,7 +16,7 @@ use Rattle.rules.specs.Word.{Word, isVoid}
 use Rattle.rules.specs.Bytes.{wordsOf}
 use Rattle.rules.specs.Shape.{places, rightGuard}
 use Rattle.rules.specs.Entry.{Entry, precedes}
-use Rattle.rules.specs.Table.{at, occupied, leftGap, rightGap, between, guardsVoid}
+use Rattle.rules.specs.Table.{at, occupiedPlaces, leftGap, rightGap, between, guardsVoid}
 use Rattle.rules.specs.Table.{virginPlaces, deal, entriesBetween, clusterEntries}
 use Rattle.rules.specs.Room.{roomBeside, roomFor}
 use Rattle.rules.specs.Lay.{holds}
@@ -63,7 +63,7 @@ bytes-left bs cs n a (writes b ws) even-b even-c small-b small-c e =
 
 -- the key is absent from its cluster, and added beside it if there is room
 abbrev pub addBeside : Shape → List Word → Entry → Outcome
-addBeside sh ws e = addTo ws e (roomBeside sh (occupied ws) (e .home))
+addBeside sh ws e = addTo ws e (roomBeside sh (occupiedPlaces ws) (e .homePlace))
 
 -- the key is looked for among some entries
 abbrev pub putAmong : Shape → List Word → Entry → List Entry → Outcome
@@ -71,23 +71,23 @@ putAmong sh ws e es = cond (holds e es) (keeps (says 1)) (addBeside sh ws e)
 
 -- the key is put where its home is empty, by the home's word
 abbrev pub putAlone : List Word → Entry → Outcome
-putAlone ws e = writes (says 2) (set ws (e .home) (aloneWord (e .remainder)))
+putAlone ws e = writes (says 2) (set ws (e .homePlace) (aloneWord (e .remainder)))
 
 abbrev pub putEmpty : List Word → Entry → Outcome
 putEmpty ws e =
-    cond (isVoid (at ws (e .home)))
-    (cond (at ws (e .home) .lock) (keeps (refuses 7)) (putAlone ws e))
+    cond (isVoid (at ws (e .homePlace)))
+    (cond (at ws (e .homePlace) .lock) (keeps (refuses 7)) (putAlone ws e))
     (keeps (refuses 6))
 
 addable :
     {sh : Shape} {ws : List Word} {e : Entry} →
-    InRange sh → InShape sh e → length ws ≡ places sh → Open sh ws (e .home) →
-    holds e (clusterEntries ws (e .home)) ≡ false → Addable sh ws e
+    InRange sh → InShape sh e → length ws ≡ places sh → Open sh ws (e .homePlace) →
+    holds e (clusterEntries ws (e .homePlace)) ≡ false → Addable sh ws e
 addable {sh} range i size o new =
     record {
       low = remainders-high sh range;
       remainder = i .remainder-low;
-      home = home-place i;
+      homePlace = home-place i;
       size = size;
       sound = o .sound;
       free = o .free;
@@ -99,56 +99,56 @@ module _ (sh : Shape) (ws : List Word) (e : Entry)
   where
     pub put-barred : guardsVoid sh ws ≡ false → putIn sh ws e ≡ keeps (refuses 6)
     unfolding putIn
-    put-barred barred = rw (around-barred sh ws (e .home) barred)
+    put-barred barred = rw (around-barred sh ws (e .homePlace) barred)
 
-    pub put-unsound : soundAround sh ws (e .home) ≡ false → putIn sh ws e ≡ keeps (refuses 6)
+    pub put-unsound : soundAround sh ws (e .homePlace) ≡ false → putIn sh ws e ≡ keeps (refuses 6)
     unfolding putIn
     put-unsound s = rw s
 
     pub put-locked :
-        soundAround sh ws (e .home) ≡ true → lockedAround ws (e .home) ≡ true → putIn sh ws e ≡ keeps (refuses 7)
+        soundAround sh ws (e .homePlace) ≡ true → lockedAround ws (e .homePlace) ≡ true → putIn sh ws e ≡ keeps (refuses 7)
     unfolding putIn
     put-locked s l = rw (s, l)
 
-    pub put-alone : Open sh ws (e .home) → at ws (e .home) .occupied ≡ false → putIn sh ws e ≡ putAlone ws e
+    pub put-alone : Open sh ws (e .homePlace) → at ws (e .homePlace) .occupied ≡ false → putIn sh ws e ≡ putAlone ws e
     unfolding putIn roomFor holds any
     put-alone o empty =
-        let none = alone-entries sh ws (e .home) (open-guards o) size (home-place i) empty in
+        let none = alone-entries sh ws (e .homePlace) (open-guards o) size (home-place i) empty in
         let a = addable range i size o (ap (holds e) none) in
         rw (o .sound, o .free, none, room-alone a empty, add-alone a empty)
 
     pub put-empty :
-        guardsVoid sh ws ≡ true → at ws (e .home) .occupied ≡ false → putIn sh ws e ≡ putEmpty ws e
-    put-empty void empty = go (isVoid (at ws (e .home))) (at ws (e .home) .lock) refl refl
+        guardsVoid sh ws ≡ true → at ws (e .homePlace) .occupied ≡ false → putIn sh ws e ≡ putEmpty ws e
+    put-empty void empty = go (isVoid (at ws (e .homePlace))) (at ws (e .homePlace) .lock) refl refl
       where
-        sound-is : soundAround sh ws (e .home) ≡ isVoid (at ws (e .home))
-        sound-is = alone-sound sh ws (e .home) void size (home-place i) empty
+        sound-is : soundAround sh ws (e .homePlace) ≡ isVoid (at ws (e .homePlace))
+        sound-is = alone-sound sh ws (e .homePlace) void size (home-place i) empty
 
-        locked-is : lockedAround ws (e .home) ≡ at ws (e .home) .lock
-        locked-is = alone-locked sh ws (e .home) void size (home-place i) empty
+        locked-is : lockedAround ws (e .homePlace) ≡ at ws (e .homePlace) .lock
+        locked-is = alone-locked sh ws (e .homePlace) void size (home-place i) empty
 
         go :
-            (v l : Bool) → isVoid (at ws (e .home)) ≡ v → at ws (e .home) .lock ≡ l →
+            (v l : Bool) → isVoid (at ws (e .homePlace)) ≡ v → at ws (e .homePlace) .lock ≡ l →
             putIn sh ws e ≡ cond v (cond l (keeps (refuses 7)) (putAlone ws e)) (keeps (refuses 6))
         go false l x y = put-unsound (sound-is ∙ x)
         go true true x y = put-locked (sound-is ∙ x) (locked-is ∙ y)
         go true false x y = put-alone (record { sound = sound-is ∙ x; free = locked-is ∙ y }) empty
 
     pub put-inside :
-        Open sh ws (e .home) → at ws (e .home) .occupied ≡ true →
-        putIn sh ws e ≡ putAmong sh ws e (clusterEntries ws (e .home))
+        Open sh ws (e .homePlace) → at ws (e .homePlace) .occupied ≡ true →
+        putIn sh ws e ≡ putAmong sh ws e (clusterEntries ws (e .homePlace))
     unfolding putIn roomFor
-    put-inside o full = rw (o .sound, o .free, occupied-at ws (e .home), full)
+    put-inside o full = rw (o .sound, o .free, occupied-at ws (e .homePlace), full)
 
 -- ---- beside the cluster
 
 -- the key is absent from the cluster after the gap l, and the read says where it would stand
-pub record Ready (sh : Shape) (ws : List Word) (e : Entry) (l : Place) (read : Read) : Type 0 where
+pub record Insertable (sh : Shape) (ws : List Word) (e : Entry) (l : Place) (read : Read) : Type 0 where
   pub addable : Addable sh ws e
-  pub full : at ws (e .home) .occupied ≡ true
-  pub left : l .0 ≡ leftGap (occupied ws) (e .home)
-  pub inside : Inside sh ws (e .home)
-  pub read-is : read ≡ readOf e (clusterEntries ws (e .home))
+  pub full : at ws (e .homePlace) .occupied ≡ true
+  pub left : l .0 ≡ leftGap (occupiedPlaces ws) (e .homePlace)
+  pub inside : Inside sh ws (e .homePlace)
+  pub read-is : read ≡ readOf e (clusterEntries ws (e .homePlace))
 
 deal-length : (hs : List ℕ) (ws : List Word) → length (deal hs ws) ≡ length ws
 unfolding deal
@@ -157,16 +157,16 @@ deal-length hs (w ∷ ws) = ap suc (deal-length _ ws)
 
 -- what is left where the key was brought from the hand to its goal
 abbrev pub broughtTo : List Word → Entry → Read → ℕ → ℕ → List Word
-broughtTo ws e read hand goal = finish (fillAt (e .remainder) ws hand) hand goal (read .mark) (e .home)
+broughtTo ws e read hand goal = finish (fillAt (e .remainder) ws hand) hand goal (read .mark) (e .homePlace)
 
-module _ {sh : Shape} {ws : List Word} {e : Entry} {l : Place} {read : Read} (g : Ready sh ws e l read) where
+module _ {sh : Shape} {ws : List Word} {e : Entry} {l : Place} {read : Read} (g : Insertable sh ws e l read) where
   -- no more keys are smaller than there are
   pub reach :
-      (suc (l .0) + read .smaller ≤ rightGap (occupied ws) (e .home)) × (rightGap (occupied ws) (e .home) < places sh)
+      (suc (l .0) + read .smaller ≤ rightGap (occupiedPlaces ws) (e .homePlace)) × (rightGap (occupiedPlaces ws) (e .homePlace) < places sh)
   unfolding readOf smaller clusterEntries entriesBetween
   reach =
-      let left = leftGap (occupied ws) (e .home) in
-      let right = rightGap (occupied ws) (e .home) in
+      let left = leftGap (occupiedPlaces ws) (e .homePlace) in
+      let right = rightGap (occupiedPlaces ws) (e .homePlace) in
       omega (
         arith,
         g .left,
@@ -174,21 +174,21 @@ module _ {sh : Shape} {ws : List Word} {e : Entry} {l : Place} {read : Read} (g 
         g .inside .before,
         g .inside .low,
         ap (λ (a : Read). a .smaller) (g .read-is),
-        count-few (λ (f : Entry). precedes f e) (clusterEntries ws (e .home)),
+        count-few (λ (f : Entry). precedes f e) (clusterEntries ws (e .homePlace)),
         deal-length (virginPlaces (suc left) (between ws left right)) (between ws left right),
         length-slice (suc left) right ws (omega (arith, g .addable .size, g .inside .low)),
       )
 
   -- the theory's law, with the hand at a gap and the enlarged cluster's first place
   moved :
-      (side : gaps.Side) (p a : ℕ) → p ≡ gaps.gap side (occupied ws) (e .home) → enlargedFrom ws (e .home) p ≡ a →
+      (side : gaps.Side) (p a : ℕ) → p ≡ gaps.gap side (occupiedPlaces ws) (e .homePlace) → enlargedFrom ws (e .homePlace) p ≡ a →
       addAt ws e p
       ≡ finish
       (fillAt (e .remainder) ws p)
       p
-      (a + smaller e (clusterEntries ws (e .home)))
-      (markOf e (clusterEntries ws (e .home)))
-      (e .home)
+      (a + smaller e (clusterEntries ws (e .homePlace)))
+      (markOf e (clusterEntries ws (e .homePlace)))
+      (e .homePlace)
   moved side p a here from = rw (← from, here) (add-moves (g .addable) (g .full) side)
 
   pub added-left :
@@ -198,7 +198,7 @@ module _ {sh : Shape} {ws : List Word} {e : Entry} {l : Place} {read : Read} (g 
       rw (← g .left, ne-eqb (l .0) 0 far, g .read-is)
       (ap (writes (says 2)) (moved gaps.left (l .0) (l .0) (g .left) (omega (arith, g .left))))
 
-  module _ (r : Place) (right : r .0 ≡ rightGap (occupied ws) (e .home)) where
+  module _ (r : Place) (right : r .0 ≡ rightGap (occupiedPlaces ws) (e .homePlace)) where
     pub added-right :
         l .0 ≡ 0 → (r .0 ≡ rightGuard sh → ⊥) →
         addBeside sh ws e ≡ writes (says 2) (broughtTo ws e read (r .0) (1 + read .smaller))
@@ -216,9 +216,9 @@ module _ {sh : Shape} {ws : List Word} {e : Entry} {l : Place} {read : Read} (g 
 -- a read of the cluster that does not find the key makes it ready
 pub ready :
     (sh : Shape) (ws : List Word) (e : Entry) {l : End} {read : Read} →
-    InRange sh → InShape sh e → length ws ≡ places sh → Open sh ws (e .home) → at ws (e .home) .occupied ≡ true →
-    l ≡ leftEnd ws (e .home) → read ≡ readOf e (clusterEntries ws (e .home)) → read .held ≡ false →
-    Ready sh ws e (l .gap) read
+    InRange sh → InShape sh e → length ws ≡ places sh → Open sh ws (e .homePlace) → at ws (e .homePlace) .occupied ≡ true →
+    l ≡ leftEnd ws (e .homePlace) → read ≡ readOf e (clusterEntries ws (e .homePlace)) → read .held ≡ false →
+    Insertable sh ws e (l .gap) read
 unfolding readOf leftEnd
 ready sh ws e range i size o full end reads new =
     record {

@@ -45,93 +45,93 @@ ghost use Rattle.table_read.specs.Read.{entry};
 ghost use Rattle.table_cluster.specs.Ends.{leftEnd};
 ghost use Rattle.table_find.specs.Around.{Open};
 ghost use Rattle.table_put.specs.Filling.{Clean};
-ghost use Rattle.table_put.specs.Putting.{wordsLeft, addBeside, putEmpty, Ready};
+ghost use Rattle.table_put.specs.Putting.{wordsLeft, addBeside, putEmpty, Insertable};
 
 // An empty home gets the key's one word.
-fn put_alone(table: &mut [u8], home: Place, x: u16) -> PutAnswer
-    requires { ⌜ 2 * home .0 + 1 < length (now table) ⌝ ∗ ⌜ x < 4096 ⌝ }
+fn put_alone(table: &mut [u8], h: Place, x: u16) -> PutAnswer
+    requires { ⌜ 2 * h .0 + 1 < length (now table) ⌝ ∗ ⌜ x < 4096 ⌝ }
     ensures { λ a. ⌜ leaves (putSays a) (wordsOf (now (table .exit)))
-        ≡ leaves (says 2) (set (wordsOf (now (table .entry))) (home .0) (aloneWord x)) ⌝ }
+        ≡ leaves (says 2) (set (wordsOf (now (table .entry))) (h .0) (aloneWord x)) ⌝ }
 {
-    set_word(table, home, alone_word(x));
+    set_word(table, h, alone_word(x));
     return PutAnswer::Inserted;
 }
 
 // A key filled in at the hand, brought to its goal and marked there.
-fn bring(table: &mut [u8], hand: Place, goal: Place, mark: u8, home: Place, x: u16) -> PutAnswer
+fn bring(table: &mut [u8], hand: Place, goal: Place, mark: u8, h: Place, x: u16) -> PutAnswer
     requires { ⌜ 2 * hand .0 + 1 < length (now table) ⌝
         ∗ ⌜ 2 * goal .0 + 1 < length (now table) ⌝
-        ∗ ⌜ 2 * home .0 + 1 < length (now table) ⌝
+        ∗ ⌜ 2 * h .0 + 1 < length (now table) ⌝
         ∗ ⌜ 0 < goal .0 ⌝
         ∗ ⌜ x < 4096 ⌝ }
     ensures { λ a. ⌜ leaves (putSays a) (wordsOf (now (table .exit)))
         ≡ leaves
         (says 2)
-        (finish (fillAt x (wordsOf (now (table .entry))) (hand .0)) (hand .0) (goal .0) mark (home .0)) ⌝ }
+        (finish (fillAt x (wordsOf (now (table .entry))) (hand .0)) (hand .0) (goal .0) mark (h .0)) ⌝ }
 {
     fill_at(table, hand, x);
     carry(table, hand, goal);
-    marks::mark(table, mark, goal, home);
+    marks::mark(table, mark, goal, h);
     PutAnswer::Inserted
 }
 
 // The first empty place to the left is filled; if that is the left guard, the one to the right; if that is a guard
 // too, the table is full.
-fn add_beside(sh: Shape, table: &mut [u8], l: Place, home: Place, x: u16, read: Read) -> PutAnswer
+fn add_beside(sh: Shape, table: &mut [u8], l: Place, h: Place, x: u16, read: Read) -> PutAnswer
     requires { ⌜ InRange sh ⌝
         ∗ ⌜ length (now table) ≡ 2 * places sh ⌝
-        ∗ ⌜ Ready sh (wordsOf (now table)) (entry (home .0) x) l read ⌝ }
+        ∗ ⌜ Insertable sh (wordsOf (now table)) (entry (h .0) x) l read ⌝ }
     ensures { λ a. ⌜ leaves (putSays a) (wordsOf (now (table .exit)))
         ≡ wordsLeft
         (wordsOf (now (table .entry)))
-        (addBeside sh (wordsOf (now (table .entry))) (entry (home .0) x)) ⌝ }
+        (addBeside sh (wordsOf (now (table .entry))) (entry (h .0) x)) ⌝ }
 {
     if l.0 == 0 {
-        let r = right_gap(table, home);
+        let r = right_gap(table, h);
         if r.0 == right_guard(sh).0 {
             return PutAnswer::Refused(Refusal::Full);
         } else {
             let goal = 1 + read.smaller;
-            return bring(table, r, Place(goal), read.mark, home, x);
+            return bring(table, r, Place(goal), read.mark, h, x);
         }
     } else {
         let goal = l.0 + read.smaller;
-        return bring(table, l, Place(goal), read.mark, home, x);
+        return bring(table, l, Place(goal), read.mark, h, x);
     }
 }
 
 // The key is found in the cluster of its home, or added beside it.
-fn put_beside(sh: Shape, table: &mut [u8], l: End, home: Place, x: u16) -> PutAnswer
-    requires { ⌜ InRange sh ⌝ ∗ ⌜ length (now table) ≡ 2 * places sh ⌝ ∗ ⌜ InShape sh (entry (home .0) x) ⌝ }
-    requires { ⌜ Open sh (wordsOf (now table)) (home .0) ⌝
-        ∗ ⌜ at (wordsOf (now table)) (home .0) .occupied ≡ true ⌝
-        ∗ ⌜ l ≡ leftEnd (wordsOf (now table)) (home .0) ⌝ }
+fn put_beside(sh: Shape, table: &mut [u8], l: End, h: Place, x: u16) -> PutAnswer
+    requires { ⌜ InRange sh ⌝ ∗ ⌜ length (now table) ≡ 2 * places sh ⌝ ∗ ⌜ InShape sh (entry (h .0) x) ⌝ }
+    requires { ⌜ Open sh (wordsOf (now table)) (h .0) ⌝
+        ∗ ⌜ at (wordsOf (now table)) (h .0) .occupied ≡ true ⌝
+        ∗ ⌜ l ≡ leftEnd (wordsOf (now table)) (h .0) ⌝ }
     ensures { λ a. ⌜ leaves (putSays a) (wordsOf (now (table .exit)))
-        ≡ wordsLeft (wordsOf (now (table .entry))) (putIn sh (wordsOf (now (table .entry))) (entry (home .0) x)) ⌝ }
+        ≡ wordsLeft (wordsOf (now (table .entry))) (putIn sh (wordsOf (now (table .entry))) (entry (h .0) x)) ⌝ }
 {
-    let p = group_start(table, l, home);
-    let read = read_from(table, l.gap, p, home, x);
+    let p = group_start(table, l, h);
+    let read = read_from(table, l.gap, p, h, x);
     if read.held {
         return PutAnswer::Found;
     } else {
-        return add_beside(sh, table, l.gap, home, x, read);
+        return add_beside(sh, table, l.gap, h, x, read);
     }
 }
 
 // The home is empty: its word decides.
-fn put_empty(table: &mut [u8], home: Place, x: u16) -> PutAnswer
-    requires { ⌜ 2 * home .0 + 1 < length (now table) ⌝ ∗ ⌜ x < 4096 ⌝ }
+fn put_empty(table: &mut [u8], h: Place, x: u16) -> PutAnswer
+    requires { ⌜ 2 * h .0 + 1 < length (now table) ⌝ ∗ ⌜ x < 4096 ⌝ }
     ensures { λ a. ⌜ leaves (putSays a) (wordsOf (now (table .exit)))
         ≡ wordsLeft
         (wordsOf (now (table .entry)))
-        (putEmpty (wordsOf (now (table .entry))) (entry (home .0) x)) ⌝ }
+        (putEmpty (wordsOf (now (table .entry))) (entry (h .0) x)) ⌝ }
 {
-    let w = word_at(table, home);
+    let w = word_at(table, h);
     if is_void(w) {
         if lock(w) {
             return PutAnswer::Refused(Refusal::Locked);
         } else {
-            return put_alone(table, home, x);
+            return put_alone(table, h, x);
         }
     } else {
         return PutAnswer::Refused(Refusal::Unsound);
@@ -139,38 +139,38 @@ fn put_empty(table: &mut [u8], home: Place, x: u16) -> PutAnswer
 }
 
 // The home is occupied: soundness of its cluster, then the locks, then the key.
-fn put_cluster(sh: Shape, table: &mut [u8], home: Place, x: u16) -> PutAnswer
-    requires { ⌜ InRange sh ⌝ ∗ ⌜ length (now table) ≡ 2 * places sh ⌝ ∗ ⌜ InShape sh (entry (home .0) x) ⌝ }
+fn put_cluster(sh: Shape, table: &mut [u8], h: Place, x: u16) -> PutAnswer
+    requires { ⌜ InRange sh ⌝ ∗ ⌜ length (now table) ≡ 2 * places sh ⌝ ∗ ⌜ InShape sh (entry (h .0) x) ⌝ }
     requires { ⌜ guardsVoid sh (wordsOf (now table)) ≡ true ⌝ }
-    requires { ⌜ at (wordsOf (now table)) (home .0) .occupied ≡ true ⌝ }
+    requires { ⌜ at (wordsOf (now table)) (h .0) .occupied ≡ true ⌝ }
     ensures { λ a. ⌜ leaves (putSays a) (wordsOf (now (table .exit)))
-        ≡ wordsLeft (wordsOf (now (table .entry))) (putIn sh (wordsOf (now (table .entry))) (entry (home .0) x)) ⌝ }
+        ≡ wordsLeft (wordsOf (now (table .entry))) (putIn sh (wordsOf (now (table .entry))) (entry (h .0) x)) ⌝ }
 {
-    let l = left_end(table, home);
-    let r = right_end(table, home, l);
+    let l = left_end(table, h);
+    let r = right_end(table, h, l);
     let run = check_run(sh, table, l.gap, r);
     if run.sound {
         if run.locked {
             return PutAnswer::Refused(Refusal::Locked);
         } else {
-            return put_beside(sh, table, l, home, x);
+            return put_beside(sh, table, l, h, x);
         }
     } else {
         return PutAnswer::Refused(Refusal::Unsound);
     }
 }
 
-fn put_at(sh: Shape, table: &mut [u8], home: Place, x: u16) -> PutAnswer
-    requires { ⌜ InRange sh ⌝ ∗ ⌜ length (now table) ≡ 2 * places sh ⌝ ∗ ⌜ InShape sh (entry (home .0) x) ⌝ }
+fn put_at(sh: Shape, table: &mut [u8], h: Place, x: u16) -> PutAnswer
+    requires { ⌜ InRange sh ⌝ ∗ ⌜ length (now table) ≡ 2 * places sh ⌝ ∗ ⌜ InShape sh (entry (h .0) x) ⌝ }
     ensures { λ a. ⌜ leaves (putSays a) (wordsOf (now (table .exit)))
-        ≡ wordsLeft (wordsOf (now (table .entry))) (putIn sh (wordsOf (now (table .entry))) (entry (home .0) x)) ⌝ }
+        ≡ wordsLeft (wordsOf (now (table .entry))) (putIn sh (wordsOf (now (table .entry))) (entry (h .0) x)) ⌝ }
 {
     if guards_void(sh, table) {
-        let w = word_at(table, home);
+        let w = word_at(table, h);
         if occupied(w) {
-            return put_cluster(sh, table, home, x);
+            return put_cluster(sh, table, h, x);
         } else {
-            return put_empty(table, home, x);
+            return put_empty(table, h, x);
         }
     } else {
         return PutAnswer::Refused(Refusal::Unsound);
@@ -186,18 +186,18 @@ fn put_key(sh: Shape, table: &mut [u8], key: u32) -> PutAnswer
 }
 
 // The same in a table that is known to be sound and unlocked: nothing of that is asked again.
-fn put_clean_at(sh: Shape, table: &mut [u8], home: Place, x: u16) -> PutAnswer
-    requires { ⌜ InRange sh ⌝ ∗ ⌜ length (now table) ≡ 2 * places sh ⌝ ∗ ⌜ InShape sh (entry (home .0) x) ⌝ }
+fn put_clean_at(sh: Shape, table: &mut [u8], h: Place, x: u16) -> PutAnswer
+    requires { ⌜ InRange sh ⌝ ∗ ⌜ length (now table) ≡ 2 * places sh ⌝ ∗ ⌜ InShape sh (entry (h .0) x) ⌝ }
     requires { ⌜ Clean sh (wordsOf (now table)) ⌝ }
     ensures { λ a. ⌜ leaves (putSays a) (wordsOf (now (table .exit)))
-        ≡ wordsLeft (wordsOf (now (table .entry))) (putIn sh (wordsOf (now (table .entry))) (entry (home .0) x)) ⌝ }
+        ≡ wordsLeft (wordsOf (now (table .entry))) (putIn sh (wordsOf (now (table .entry))) (entry (h .0) x)) ⌝ }
 {
-    let w = word_at(table, home);
+    let w = word_at(table, h);
     if occupied(w) {
-        let l = left_end(table, home);
-        return put_beside(sh, table, l, home, x);
+        let l = left_end(table, h);
+        return put_beside(sh, table, l, h, x);
     } else {
-        return put_alone(table, home, x);
+        return put_alone(table, h, x);
     }
 }
 

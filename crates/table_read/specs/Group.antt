@@ -46,8 +46,8 @@ unfoldable pub groupRead : Entry → Seen → List Word → Read
 groupRead e s [] = readSeen s
 groupRead e s (w ∷ ws) =
     cond (w .change)
-    (readSeen (look e (entry (e .home) (w .remainder)) s))
-    (groupRead e (look e (entry (e .home) (w .remainder)) s) ws)
+    (readSeen (look e (entry (e .homePlace) (w .remainder)) s))
+    (groupRead e (look e (entry (e .homePlace) (w .remainder)) s) ws)
 
 -- ---- homes before a place, homes after it
 pub data Below (c : ℕ) : List ℕ → Type 0 where
@@ -125,7 +125,7 @@ pass-none e s gs ws o =
 
 -- a word of a group whose home is earlier
 pass-word :
-    (e : Entry) (s : Seen) (n h : ℕ) (hs gs ks : List ℕ) (w : Word) (ws : List Word) → h < e .home →
+    (e : Entry) (s : Seen) (n h : ℕ) (hs gs ks : List ℕ) (w : Word) (ws : List Word) → h < e .homePlace →
     due (w .change) (h ∷ (hs ++ gs)) ≡ ks ++ gs → Passed e (more 1 s) n ks gs ws →
     Passed e s (suc n) (h ∷ hs) gs (w ∷ ws)
 unfolding deal
@@ -143,7 +143,7 @@ pass-word e s n h hs gs ks w ws lt homes rest =
     }
 
 pub pass-groups :
-    (e : Entry) (gs : List ℕ) (ws : List Word) (s : Seen) (hs : List ℕ) → Below (e .home) hs → Owed (hs ++ gs) ws →
+    (e : Entry) (gs : List ℕ) (ws : List Word) (s : Seen) (hs : List ℕ) → Below (e .homePlace) hs → Owed (hs ++ gs) ws →
     Passed e s (passed ws (length hs)) hs gs ws
 unfolding passed count
 pass-groups e gs [] s [] low o = pass-none e s gs [] o
@@ -154,11 +154,11 @@ pass-groups e gs (w ∷ ws) s (h ∷ hs) (below-next lt low) o =
     (w .change)
     refl
     (owed-next (h ∷ (hs ++ gs)) w ws o)
-    (λ (ks : List ℕ) (b : Below (e .home) ks) (next : Owed (ks ++ gs) ws). pass-groups e gs ws (more 1 s) ks b next)
+    (λ (ks : List ℕ) (b : Below (e .homePlace) ks) (next : Owed (ks ++ gs) ws). pass-groups e gs ws (more 1 s) ks b next)
   where
     go :
         (b : Bool) → w .change ≡ b → Owed (due b (h ∷ (hs ++ gs))) ws →
-        ((ks : List ℕ) → Below (e .home) ks → Owed (ks ++ gs) ws →
+        ((ks : List ℕ) → Below (e .homePlace) ks → Owed (ks ++ gs) ws →
         Passed e (more 1 s) (passed ws (length ks)) ks gs ws) →
         Passed e s (pastOne b (suc (length hs)) (λ (j : ℕ). passed ws j)) (h ∷ hs) gs (w ∷ ws)
     go true c next rest =
@@ -180,7 +180,7 @@ pass-groups e gs (w ∷ ws) s (h ∷ hs) (below-next lt low) o =
 
 -- ---- groups of later homes, and the key's own
 pub pass-later :
-    (e : Entry) (s : Seen) (ws : List Word) (hs : List ℕ) → Above (e .home) hs → Owed hs ws →
+    (e : Entry) (s : Seen) (ws : List Word) (hs : List ℕ) → Above (e .homePlace) hs → Owed hs ws →
     after e s (deal hs ws) ≡ readSeen s
 unfolding count deal
 pass-later e s [] hs high o = after-end e s
@@ -190,29 +190,29 @@ pass-later e s (w ∷ ws) (h ∷ hs) (above-next lt high) o =
     ∙ ap (λ (t : Seen). after e t (deal (due (w .change) (h ∷ hs)) ws)) (look-beyond e (entry h (w .remainder)) s lt)
     ∙ pass-later e s ws (due (w .change) (h ∷ hs)) (still (w .change)) (owed-next (h ∷ hs) w ws o)
   where
-    still : (b : Bool) → Above (e .home) (due b (h ∷ hs))
+    still : (b : Bool) → Above (e .homePlace) (due b (h ∷ hs))
     still true = high
     still false = above-next lt high
 
 pub read-group :
-    (e : Entry) (hs : List ℕ) (ws : List Word) (s : Seen) → Above (e .home) hs → Owed (e .home ∷ hs) ws →
-    after e s (deal (e .home ∷ hs) ws) ≡ groupRead e s ws
+    (e : Entry) (hs : List ℕ) (ws : List Word) (s : Seen) → Above (e .homePlace) hs → Owed (e .homePlace ∷ hs) ws →
+    after e s (deal (e .homePlace ∷ hs) ws) ≡ groupRead e s ws
 unfolding groupRead deal
 read-group e hs [] s high o = after-end e s
 read-group e hs (w ∷ ws) s high o =
-    sym (after-step e (entry (e .home) (w .remainder)) s _)
+    sym (after-step e (entry (e .homePlace) (w .remainder)) s _)
     ∙ go
     (w .change)
-    (owed-next (e .home ∷ hs) w ws o)
-    (λ (next : Owed (e .home ∷ hs) ws). read-group e hs ws (look e (entry (e .home) (w .remainder)) s) high next)
+    (owed-next (e .homePlace ∷ hs) w ws o)
+    (λ (next : Owed (e .homePlace ∷ hs) ws). read-group e hs ws (look e (entry (e .homePlace) (w .remainder)) s) high next)
   where
     now-seen : Seen
-    now-seen = look e (entry (e .home) (w .remainder)) s
+    now-seen = look e (entry (e .homePlace) (w .remainder)) s
 
     go :
-        (b : Bool) → Owed (due b (e .home ∷ hs)) ws →
-        (Owed (e .home ∷ hs) ws → after e now-seen (deal (e .home ∷ hs) ws) ≡ groupRead e now-seen ws) →
-        after e now-seen (deal (due b (e .home ∷ hs)) ws) ≡ cond b (readSeen now-seen) (groupRead e now-seen ws)
+        (b : Bool) → Owed (due b (e .homePlace ∷ hs)) ws →
+        (Owed (e .homePlace ∷ hs) ws → after e now-seen (deal (e .homePlace ∷ hs) ws) ≡ groupRead e now-seen ws) →
+        after e now-seen (deal (due b (e .homePlace ∷ hs)) ws) ≡ cond b (readSeen now-seen) (groupRead e now-seen ws)
     go true next rest = pass-later e now-seen ws hs high next
     go false next rest = rest next
 
@@ -251,14 +251,14 @@ module _ (bs : List ℕ) (i r : ℕ) where
     module _ (e : Entry) (s : Seen) (y : ℕ) (remainder-is : y ≡ wordOf w .remainder) where
       pub group-goes :
           wordOf w .change ≡ false →
-          groupRead e (look e (entry (e .home) y) s) (slice (i + 1) r (wordsOf bs))
+          groupRead e (look e (entry (e .homePlace) y) s) (slice (i + 1) r (wordsOf bs))
           ≡ groupRead e s (slice i r (wordsOf bs))
       unfolding groupRead
       group-goes c = rw (run-step bs i r lt within, ← word, c, remainder-is)
 
       pub group-ends :
           wordOf w .change ≡ true →
-          readSeen (look e (entry (e .home) y) s) ≡ groupRead e s (slice i r (wordsOf bs))
+          readSeen (look e (entry (e .homePlace) y) s) ≡ groupRead e s (slice i r (wordsOf bs))
       unfolding groupRead
       group-ends c = rw (run-step bs i r lt within, ← word, c, remainder-is)
 
@@ -348,7 +348,7 @@ group-front e (u ∷ us) vs s some =
     go (u .change) some (λ (h : 1 ≤ count isChange us). group-front e us vs next h)
   where
     next : Seen
-    next = look e (entry (e .home) (u .remainder)) s
+    next = look e (entry (e .homePlace) (u .remainder)) s
 
     go :
         (b : Bool) → 1 ≤ bitOf b + count isChange us →

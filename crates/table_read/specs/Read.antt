@@ -25,7 +25,7 @@ unfoldable pub readOf : Entry → List Entry → Read
 readOf e es = record { held = holds e es; smaller = smaller e es; mark = markOf e es }
 
 abbrev pub entry : ℕ → ℕ → Entry
-entry home remainder = record { home = home; remainder = remainder }
+entry homeAt remainder = record { homePlace = homeAt; remainder = remainder }
 
 -- the entry f is seen, where e is looked for
 unfoldable pub look : Entry → Entry → Seen → Seen
@@ -40,24 +40,24 @@ look e f s =
 -- ---- where f has an earlier home, a later one, or the same with a smaller, a larger or an equal remainder
 module _ (e f : Entry) (s : Seen) where
   pub look-before :
-      f .home < e .home →
+      f .homePlace < e .homePlace →
       look e f s
       ≡ record { held = s .held; smaller = s .smaller + 1; grouped = s .grouped; largest = s .largest }
   unfolding look sameEntry sameHome precedes
-  look-before h = rw (lt-ltb (f .home) (e .home) h, ne-eqb (e .home) (f .home) (λ q. omega arith))
+  look-before h = rw (lt-ltb (f .homePlace) (e .homePlace) h, ne-eqb (e .homePlace) (f .homePlace) (λ q. omega arith))
 
-  pub look-beyond : e .home < f .home → look e f s ≡ s
+  pub look-beyond : e .homePlace < f .homePlace → look e f s ≡ s
   unfolding look sameEntry sameHome precedes
   look-beyond h =
       rw (
-        le-ltb (f .home) (e .home) (omega arith),
-        ne-eqb (f .home) (e .home) (λ q. omega arith),
-        ne-eqb (e .home) (f .home) (λ q. omega arith),
+        le-ltb (f .homePlace) (e .homePlace) (omega arith),
+        ne-eqb (f .homePlace) (e .homePlace) (λ q. omega arith),
+        ne-eqb (e .homePlace) (f .homePlace) (λ q. omega arith),
         add-zero (s .smaller),
       )
 
-  module _ (above : e .home ≤ f .home) (below : f .home ≤ e .home) where
-    same : (f .home ≡ e .home) × (e .home ≡ f .home)
+  module _ (above : e .homePlace ≤ f .homePlace) (below : f .homePlace ≤ e .homePlace) where
+    same : (f .homePlace ≡ e .homePlace) × (e .homePlace ≡ f .homePlace)
     same = (omega arith, omega arith)
 
     pub look-below :
@@ -66,9 +66,9 @@ module _ (e f : Entry) (s : Seen) where
     unfolding look sameEntry sameHome precedes
     look-below h =
         rw (
-          le-ltb (f .home) (e .home) above,
-          eq-eqb (f .home) (e .home) (same .0),
-          eq-eqb (e .home) (f .home) (same .1),
+          le-ltb (f .homePlace) (e .homePlace) above,
+          eq-eqb (f .homePlace) (e .homePlace) (same .0),
+          eq-eqb (e .homePlace) (f .homePlace) (same .1),
           lt-ltb (f .remainder) (e .remainder) h,
           ne-eqb (e .remainder) (f .remainder) (λ q. omega arith),
         )
@@ -79,9 +79,9 @@ module _ (e f : Entry) (s : Seen) where
     unfolding look sameEntry sameHome precedes
     look-above h =
         rw (
-          le-ltb (f .home) (e .home) above,
-          eq-eqb (f .home) (e .home) (same .0),
-          eq-eqb (e .home) (f .home) (same .1),
+          le-ltb (f .homePlace) (e .homePlace) above,
+          eq-eqb (f .homePlace) (e .homePlace) (same .0),
+          eq-eqb (e .homePlace) (f .homePlace) (same .1),
           le-ltb (f .remainder) (e .remainder) (omega arith),
           ne-eqb (e .remainder) (f .remainder) (λ q. omega arith),
           add-zero (s .smaller),
@@ -93,9 +93,9 @@ module _ (e f : Entry) (s : Seen) where
     unfolding look sameEntry sameHome precedes
     look-equal h k =
         rw (
-          le-ltb (f .home) (e .home) above,
-          eq-eqb (f .home) (e .home) (same .0),
-          eq-eqb (e .home) (f .home) (same .1),
+          le-ltb (f .homePlace) (e .homePlace) above,
+          eq-eqb (f .homePlace) (e .homePlace) (same .0),
+          eq-eqb (e .homePlace) (f .homePlace) (same .1),
           le-ltb (f .remainder) (e .remainder) h,
           eq-eqb (e .remainder) (f .remainder) (omega arith),
           add-zero (s .smaller),

@@ -18,7 +18,7 @@ ghost use Rattle.theory.specs.Dealt.{isChange};
 ghost use Rattle.table_read.specs.Read as spec;
 ghost use Rattle.table_read.specs.Read.{entry, unseen};
 ghost use Rattle.table_read.specs.Group.{wordsFrom, passed, more, readSeen, groupRead};
-ghost use Rattle.table_read.specs.Beside.{allBut, Beside, groupStart, Begins, readFrom};
+ghost use Rattle.table_read.specs.FromLeft.{allBut, LeftCounted, groupStart, Begins, readFrom};
 
 // Is the key there, how many keys are smaller, and the mark: 2 if its group is new, 1 if it is larger than all of its
 // group, else 0.
@@ -40,7 +40,7 @@ struct Seen {
 // One more key of the group is seen, that of remainder y, where that of remainder x is looked for.
 fn look(seen: Seen, x: u16, y: u16) -> Seen
     requires { ⌜ seen .smaller < 4294967295 ⌝ }
-    ensures { λ s. ⌜ ((home : ℕ) → s ≡ spec.look (entry home x) (entry home y) seen) ⌝ }
+    ensures { λ s. ⌜ ((homeAt : ℕ) → s ≡ spec.look (entry homeAt x) (entry homeAt y) seen) ⌝ }
 {
     if y < x {
         Seen {
@@ -102,14 +102,14 @@ fn pass_groups(table: &[u8], a: Place, k: u32) -> Place
 }
 
 // The place after the groups between l and the home, all but the last k of them.
-fn pass_back(table: &[u8], l: Place, home: Place, k: u32) -> Place
-    requires { ⌜ l .0 < home .0 ⌝ ∗ ⌜ 2 * home .0 ≤ length (now table) ⌝ }
-    requires { ⌜ k ≤ count isChange (slice (l .0 + 1) (home .0) (wordsOf (now table))) ⌝ }
-    ensures { λ p. ⌜ p .0 ≡ l .0 + 1 + allBut k (slice (l .0 + 1) (home .0) (wordsOf (now (table .entry)))) ⌝ }
+fn pass_back(table: &[u8], l: Place, h: Place, k: u32) -> Place
+    requires { ⌜ l .0 < h .0 ⌝ ∗ ⌜ 2 * h .0 ≤ length (now table) ⌝ }
+    requires { ⌜ k ≤ count isChange (slice (l .0 + 1) (h .0) (wordsOf (now table))) ⌝ }
+    ensures { λ p. ⌜ p .0 ≡ l .0 + 1 + allBut k (slice (l .0 + 1) (h .0) (wordsOf (now (table .entry)))) ⌝ }
 {
     let end = l.0;
     let mut left = k;
-    let mut i = home.0 - 1;
+    let mut i = h.0 - 1;
     while i > end {
         let w = word_at(table, Place(i));
         if change(w) {
@@ -128,22 +128,22 @@ fn pass_back(table: &[u8], l: Place, home: Place, k: u32) -> Place
 
 // Where the home's group begins or would: the groups of the homes left of it are passed over. The way is counted from
 // the home, to the right if more homes than groups' ends stand left of it, else to the left.
-pub fn group_start(table: &[u8], l: End, home: Place) -> Place
-    requires { ⌜ Beside (now table) l (home .0) ⌝ }
-    ensures { λ p. ⌜ p .0 ≡ l .gap .0 + 1 + groupStart (now (table .entry)) (l .gap .0) (home .0) ⌝ }
+pub fn group_start(table: &[u8], l: End, h: Place) -> Place
+    requires { ⌜ LeftCounted (now table) l (h .0) ⌝ }
+    ensures { λ p. ⌜ p .0 ≡ l .gap .0 + 1 + groupStart (now (table .entry)) (l .gap .0) (h .0) ⌝ }
 {
     if l.changes < l.virgins {
-        return pass_groups(table, home, l.virgins - l.changes);
+        return pass_groups(table, h, l.virgins - l.changes);
     } else {
-        return pass_back(table, l.gap, home, l.changes - l.virgins);
+        return pass_back(table, l.gap, h, l.changes - l.virgins);
     }
 }
 
 // The words from p on are the group of a home, with so many keys before it: they are looked at up to its end.
 fn read_group(table: &[u8], p: Place, x: u16, before: u32) -> Read
     requires { ⌜ 1 ≤ count isChange (wordsFrom (now table) (p .0)) ⌝ ∗ ⌜ before ≤ p .0 ⌝ }
-    ensures { λ a. ⌜ ((home : ℕ) →
-        a ≡ groupRead (entry home x) (more before unseen) (wordsFrom (now (table .entry)) (p .0))) ⌝ }
+    ensures { λ a. ⌜ ((homeAt : ℕ) →
+        a ≡ groupRead (entry homeAt x) (more before unseen) (wordsFrom (now (table .entry)) (p .0))) ⌝ }
 {
     let mut seen = Seen {
         held: false,
@@ -162,12 +162,12 @@ fn read_group(table: &[u8], p: Place, x: u16, before: u32) -> Read
 }
 
 // The key of home and remainder x, in the cluster after the gap l: p is where the home's group begins or would.
-pub fn read_from(table: &[u8], l: Place, p: Place, home: Place, x: u16) -> Read
-    requires { ⌜ Begins (now table) (l .0) (p .0) (home .0) ⌝ }
-    ensures { λ a. ⌜ a ≡ readFrom (now (table .entry)) (l .0) (entry (home .0) x) ⌝ }
+pub fn read_from(table: &[u8], l: Place, p: Place, h: Place, x: u16) -> Read
+    requires { ⌜ Begins (now table) (l .0) (p .0) (h .0) ⌝ }
+    ensures { λ a. ⌜ a ≡ readFrom (now (table .entry)) (l .0) (entry (h .0) x) ⌝ }
 {
     let before = p.0 - (l.0 + 1);
-    if virgin(word_at(table, home)) {
+    if virgin(word_at(table, h)) {
         return read_group(table, p, x, before);
     } else {
         return Read {

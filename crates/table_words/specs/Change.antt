@@ -9,7 +9,7 @@ use lib.Dec.{eqb}
 use borrow.Author.Tests.{eq-eqb, ne-eqb, eqb-true, eqb-false}
 use Rattle.rules.specs.Lists.{bitOf}
 use Rattle.rules.specs.Word.{Word, wordOf, numberOf, isVoid, isZero, isLock}
-use Rattle.rules.specs.Word.{withLock, withVirgin, withChange, withRemainder, withPayload}
+use Rattle.rules.specs.Word.{withLock, withVirgin, withChange, filledWith, withPayload}
 use Rattle.rules.specs.Phase.{aloneWord}
 use Rattle.table_words.specs.Number.{Small, small, remainder-small, number-of-word, word-of-number, fields}
 
@@ -93,10 +93,10 @@ module _ (n : ℕ) (h : n < 65536) where
   unfolding numberOf
   with-virgin k e = number-is k (withVirgin true (wordOf n)) (remainder-small n) (omega (arith, parts))
 
-  pub with-remainder :
-      (x k : ℕ) → x < 4096 → k ≡ n / 8192 * 8192 + 4096 + x → wordOf k ≡ withRemainder x (wordOf n)
+  pub filled-with :
+      (x k : ℕ) → x < 4096 → k ≡ n / 8192 * 8192 + 4096 + x → wordOf k ≡ filledWith x (wordOf n)
   unfolding numberOf
-  with-remainder x k l e = number-is k (withRemainder x (wordOf n)) l (omega (arith, parts))
+  filled-with x k l e = number-is k (filledWith x (wordOf n)) l (omega (arith, parts))
 
   -- the bits that stay where they are in an exchange
   staying :

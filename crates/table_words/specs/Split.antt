@@ -26,8 +26,8 @@ module _ (sh : Shape) (key : ℕ) where
 
 -- an entry that a table of the shape can hold: its home's place lies between the guards
 pub record InShape (sh : Shape) (e : Entry) : Type 0 where
-  pub home-low : 1 ≤ e .home
-  pub home-high : e .home ≤ homes sh
+  pub home-low : 1 ≤ e .homePlace
+  pub home-high : e .homePlace ≤ homes sh
   pub remainder-low : e .remainder < remainders sh
 
 pub split-in-shape : (sh : Shape) (key : ℕ) → key < keys sh → InShape sh (split sh key)
@@ -40,13 +40,13 @@ module _ (sh : Shape) (e : Entry) (i : InShape sh e) where
   pub split-join : split sh (join sh e) ≡ e
   unfolding join split homeOfPlace placeOfHome homeOf remainderOf
   split-join =
-      let back : e .home - 1 + 1 ≡ e .home = omega arith in
-      rw (digits-div (e .home - 1) (i .remainder-low), digits-mod (e .home - 1) (i .remainder-low), back)
+      let back : e .homePlace - 1 + 1 ≡ e .homePlace = omega arith in
+      rw (digits-div (e .homePlace - 1) (i .remainder-low), digits-mod (e .homePlace - 1) (i .remainder-low), back)
 
   pub join-below : join sh e < keys sh
   unfolding join homeOfPlace
   join-below =
-      let home-number : e .home - 1 < homes sh = omega arith in
+      let home-number : e .homePlace - 1 < homes sh = omega arith in
       rw keys-are (digits-lt home-number (i .remainder-low))
 
 -- so a key that is joined fits 32 bits

@@ -37,14 +37,14 @@ pub fn remainder_of(sh: Shape, key: u32) -> u16
 
 pub fn home_place(sh: Shape, key: u32) -> Place
     requires { ⌜ InRange sh ⌝ ∗ ⌜ key < keys sh ⌝ }
-    ensures { λ p. ⌜ p .0 ≡ split sh key .home ⌝ }
+    ensures { λ p. ⌜ p .0 ≡ split sh key .homePlace ⌝ }
 {
     place_of_home(home_of(sh, key))
 }
 
-pub fn join(sh: Shape, home: Place, remainder: u16) -> u32
-    requires { ⌜ InRange sh ⌝ ∗ ⌜ InShape sh (record { home = home .0; remainder = remainder }) ⌝ }
-    ensures { λ key. ⌜ key ≡ entry.join sh (record { home = home .0; remainder = remainder }) ⌝ }
+pub fn join(sh: Shape, h: Place, remainder: u16) -> u32
+    requires { ⌜ InRange sh ⌝ ∗ ⌜ InShape sh (record { homePlace = h .0; remainder = remainder }) ⌝ }
+    ensures { λ key. ⌜ key ≡ entry.join sh (record { homePlace = h .0; remainder = remainder }) ⌝ }
 {
-    (home.0 - 1) * remainders(sh) + remainder as u32
+    (h.0 - 1) * remainders(sh) + remainder as u32
 }

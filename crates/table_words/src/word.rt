@@ -4,7 +4,7 @@ ghost use mathlib.Core.Bool.{true};
 ghost use Prim.Native.Nat.{_<_};
 ghost use Rattle.rules.specs.Lists.{bitOf};
 ghost use Rattle.rules.specs.Word.{wordOf, isVoid, isZero, isLock};
-ghost use Rattle.rules.specs.Word.{withLock, withVirgin, withChange, withRemainder, withPayload};
+ghost use Rattle.rules.specs.Word.{withLock, withVirgin, withChange, filledWith, withPayload};
 ghost use Rattle.rules.specs.Phase.{aloneWord};
 
 // A bit as a number.
@@ -81,9 +81,9 @@ pub fn with_virgin(w: u16) -> u16
 }
 
 // Occupied, with a remainder.
-pub fn with_remainder(x: u16, w: u16) -> u16
+pub fn filled_with(x: u16, w: u16) -> u16
     requires { ⌜ x < 4096 ⌝ }
-    ensures { λ v. ⌜ wordOf v ≡ withRemainder x (wordOf w) ⌝ }
+    ensures { λ v. ⌜ wordOf v ≡ filledWith x (wordOf w) ⌝ }
 {
     w / 8192 * 8192 + 4096 + x
 }

@@ -11,7 +11,7 @@ use borrow.Author.Tests.{le-leb, lt-leb, eq-eqb, ne-eqb, ltb-true, leb-true, eqb
 use Rattle.rules.specs.declared.Shape.{Shape}
 use Rattle.rules.specs.declared.Task.{Task}
 use Rattle.rules.specs.Shape.{homes, keys, rightGuard}
-use Rattle.rules.specs.Record.{homePlace, within, implies, busy, atRest, fitsHand, fitsBusy, fits}
+use Rattle.rules.specs.Record.{homePlaceOf, within, implies, busy, atRest, fitsHand, fitsBusy, fits}
 
 -- what is asked of hand, goal and mark: the last four of the rules' tests of a busy record
 unfoldable pub fitsWork : Shape → Task → Bool
@@ -88,8 +88,8 @@ pub record FitsHand (sh : Shape) (t : Task) : Type 0 where
 -- the key is in range; from phase 2 on left is below the home place; from phase 3 on right is above it
 pub record Fits (sh : Shape) (t : Task) : Type 0 where
   pub key : t .key < keys sh
-  pub left : 2 ≤ t .phase → t .left < homePlace sh t
-  pub right-low : 3 ≤ t .phase → homePlace sh t < t .right
+  pub left : 2 ≤ t .phase → t .left < homePlaceOf sh t
+  pub right-low : 3 ≤ t .phase → homePlaceOf sh t < t .right
   pub right-high : 3 ≤ t .phase → t .right ≤ rightGuard sh
   pub hand : 8 ≤ t .phase → t .phase ≤ 10 → FitsHand sh t
   pub apart : t .phase ≡ 9 → t .hand ≡ t .goal → ⊥
@@ -132,17 +132,17 @@ fitting-busy sh t e =
     let (e, eight) = both _ (implies (eqb (t .phase) 8) (eqb (t .hand) (t .left) || eqb (t .hand) (t .right))) e in
     let (e, hand) = both _ (implies (within 8 10 (t .phase)) (fitsHand sh t)) e in
     let (e, right) =
-    both _ (implies (leb 3 (t .phase)) (within (suc (homePlace sh t)) (rightGuard sh) (t .right))) e in
-    let (key, left) = both (ltb (t .key) (keys sh)) (implies (leb 2 (t .phase)) (ltb (t .left) (homePlace sh t))) e in
-    let right-asked : 3 ≤ t .phase → within (suc (homePlace sh t)) (rightGuard sh) (t .right) ≡ true =
+    both _ (implies (leb 3 (t .phase)) (within (suc (homePlaceOf sh t)) (rightGuard sh) (t .right))) e in
+    let (key, left) = both (ltb (t .key) (keys sh)) (implies (leb 2 (t .phase)) (ltb (t .left) (homePlaceOf sh t))) e in
+    let right-asked : 3 ≤ t .phase → within (suc (homePlaceOf sh t)) (rightGuard sh) (t .right) ≡ true =
     λ h. asked (leb 3 (t .phase)) _ right (le-leb 3 (t .phase) h) in
     record {
       key = ltb-true (t .key) (keys sh) key;
-      left = λ h. ltb-true (t .left) (homePlace sh t) (asked (leb 2 (t .phase)) _ left (le-leb 2 (t .phase) h));
+      left = λ h. ltb-true (t .left) (homePlaceOf sh t) (asked (leb 2 (t .phase)) _ left (le-leb 2 (t .phase) h));
       right-low = λ h.
-          leb-true (suc (homePlace sh t)) (t .right) (both _ (leb (t .right) (rightGuard sh)) (right-asked h) .0);
+          leb-true (suc (homePlaceOf sh t)) (t .right) (both _ (leb (t .right) (rightGuard sh)) (right-asked h) .0);
       right-high = λ h.
-          leb-true (t .right) (rightGuard sh) (both (leb (suc (homePlace sh t)) (t .right)) _ (right-asked h) .1);
+          leb-true (t .right) (rightGuard sh) (both (leb (suc (homePlaceOf sh t)) (t .right)) _ (right-asked h) .1);
       hand = λ low high.
           fitting-hand sh t
           (asked (within 8 10 (t .phase)) _ hand (rw (le-leb 8 (t .phase) low, le-leb (t .phase) 10 high)));

@@ -14,7 +14,7 @@ use Rattle.rules.specs.Bytes.{wordsOf}
 use Rattle.rules.specs.Shape.{homes, places, rightGuard}
 use Rattle.rules.specs.Entry.{remainderOf}
 use Rattle.rules.specs.Table.{at, guardsVoid}
-use Rattle.rules.specs.Record.{homePlace}
+use Rattle.rules.specs.Record.{homePlaceOf}
 use Rattle.table_words.specs.Range.{InRange, homes-high, remainders-high}
 use Rattle.table_words.specs.Split.{split-in-shape, remainder-below}
 use Rattle.theory.specs.Dealt.{and-left}
@@ -39,16 +39,16 @@ pub record Among (a b : ℕ) (sh : Shape) (bytes : List ℕ) (t : Task) : Type 0
 
 module _ {n : ℕ} {sh : Shape} {bytes : List ℕ} {t : Task} (ready : Ready n sh bytes t) where
   -- the home lies between the guards
-  pub home-low : 1 ≤ homePlace sh t
-  unfolding homePlace
+  pub home-low : 1 ≤ homePlaceOf sh t
+  unfolding homePlaceOf
   home-low = split-in-shape sh (t .key) (ready .fits .key) .home-low
 
-  pub home-high : homePlace sh t ≤ homes sh
-  unfolding homePlace
+  pub home-high : homePlaceOf sh t ≤ homes sh
+  unfolding homePlaceOf
   home-high = split-in-shape sh (t .key) (ready .fits .key) .home-high
 
   -- so it has a neighbour
-  pub home-small : homePlace sh t < 4294967295
+  pub home-small : homePlaceOf sh t < 4294967295
   home-small = omega (arith, home-high, homes-high sh (ready .range))
 
   -- and its key's remainder fits a word
@@ -59,7 +59,7 @@ module _ {n : ℕ} {sh : Shape} {bytes : List ℕ} {t : Task} (ready : Ready n s
   unfolding rightGuard places
   inside below = omega arith
 
-  pub home-inside : 2 * homePlace sh t + 1 < length bytes
+  pub home-inside : 2 * homePlaceOf sh t + 1 < length bytes
   unfolding rightGuard
   home-inside = inside (omega (arith, home-high))
 

@@ -12,7 +12,7 @@ ghost use Prim.Native.Nat.{suc, _<_};
 ghost use lib.Dec.{ltb, leb, eqb};
 ghost use Rattle.rules.specs.Shape.{keys, rightGuard};
 ghost use Rattle.rules.specs.Record as spec;
-ghost use Rattle.rules.specs.Record.{homePlace, implies, fitsHand, fitsBusy};
+ghost use Rattle.rules.specs.Record.{homePlaceOf, implies, fitsHand, fitsBusy};
 ghost use Rattle.table_words.specs.Range.{InRange};
 ghost use Rattle.task_fits.specs.Fit.{fitsWork};
 
@@ -79,7 +79,7 @@ fn fits_work(sh: Shape, t: Task) -> bool
 // From phase 2 on, left is below the home.
 fn fits_left(sh: Shape, t: Task) -> bool
     requires { ⌜ InRange sh ⌝ ∗ ⌜ t .key < keys sh ⌝ }
-    ensures { λ b. ⌜ b ≡ implies (leb 2 (t .phase)) (ltb (t .left) (homePlace sh t)) ⌝ }
+    ensures { λ b. ⌜ b ≡ implies (leb 2 (t .phase)) (ltb (t .left) (homePlaceOf sh t)) ⌝ }
 {
     if 2 <= t.phase {
         t.left < home_place(sh, t.key).0
@@ -91,7 +91,7 @@ fn fits_left(sh: Shape, t: Task) -> bool
 // From phase 3 on, right is above the home, up to the right guard.
 fn fits_right(sh: Shape, t: Task) -> bool
     requires { ⌜ InRange sh ⌝ ∗ ⌜ t .key < keys sh ⌝ }
-    ensures { λ b. ⌜ b ≡ implies (leb 3 (t .phase)) (spec.within (suc (homePlace sh t)) (rightGuard sh) (t .right)) ⌝ }
+    ensures { λ b. ⌜ b ≡ implies (leb 3 (t .phase)) (spec.within (suc (homePlaceOf sh t)) (rightGuard sh) (t .right)) ⌝ }
 {
     if 3 <= t.phase {
         within(home_place(sh, t.key).0 + 1, right_guard(sh).0, t.right)

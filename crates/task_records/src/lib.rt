@@ -15,7 +15,7 @@ ghost use Rattle.rules.specs.Answer.{doneSays, leaves};
 ghost use Rattle.rules.specs.Give as giving;
 ghost use Rattle.rules.specs.Step as stepping;
 ghost use Rattle.task_step.specs.Given.{turnSays};
-ghost use Rattle.task_records.specs.Lent.{giveNone, giveAt, stepNone, stepAt, giveAll, stepAll};
+ghost use Rattle.task_records.specs.Calls.{giveNone, giveAt, stepNone, stepAt, giveAll, stepAll};
 
 // A record as a call leaves it, beside its answer.
 struct After {

@@ -18,8 +18,8 @@ use Rattle.rules.specs.Word.{Word, isVoid, isLock}
 use Rattle.rules.specs.Bytes.{wordsOf}
 use Rattle.rules.specs.Shape.{places, rightGuard}
 use Rattle.rules.specs.Entry.{Entry, split, precedes}
-use Rattle.rules.specs.Table.{at, occupied, leftGap, between, soundRun, due, deal, virginPlaces, entriesBetween}
-use Rattle.rules.specs.Record.{homePlace, toPhase, withHand, withGoal, withAnswer}
+use Rattle.rules.specs.Table.{at, occupiedPlaces, leftGap, between, soundRun, due, deal, virginPlaces, entriesBetween}
+use Rattle.rules.specs.Record.{homePlaceOf, toPhase, withHand, withGoal, withAnswer}
 use Rattle.rules.specs.Phase.{smaller, handOf, goalOf, readEntries, readable}
 use Rattle.table_words.specs.Range.{homes-high}
 use Rattle.table_words.specs.Number.{bit-small}
@@ -35,7 +35,7 @@ use Rattle.table_cluster.specs.Scan.{words-count}
 use Rattle.table_read.specs.Read.{readOf}
 use Rattle.table_cluster.specs.Homes.{Housed, sound-housed}
 use Rattle.table_cluster.specs.Ends.{leftEnd}
-use Rattle.table_read.specs.Beside.{Beside, readFrom, read-from, housed-beside}
+use Rattle.table_read.specs.FromLeft.{LeftCounted, readFrom, read-from, housed-beside}
 use Rattle.task_fits.specs.Ready.{Ready, right-within, right-small, ends-apart, guard-free}
 
 unfoldable pub afterRead : Shape → Task → Read → Task
@@ -54,10 +54,10 @@ after-entries sh t e es = refl
 -- a place between two is occupied if all that lies between them is
 between-taken :
     (ws : List Word) (l r : ℕ) → r ≤ length ws → all isOccupied (between ws l r) ≡ true →
-    TakenFrom (occupied ws) (suc l) r
+    TakenFrom (occupiedPlaces ws) (suc l) r
 between-taken ws l r inside full q low high =
     let here : suc l + (q - suc l) ≡ q = omega arith in
-    ap (λ (p : ℕ). getD (occupied ws) p false) (sym here)
+    ap (λ (p : ℕ). getD (occupiedPlaces ws) p false) (sym here)
     ∙ occupied-at ws (suc l + (q - suc l))
     ∙ ap isOccupied (sym (between-at ws l r (q - suc l) (omega arith)))
     ∙ all-at isOccupied (between ws l r) (q - suc l) full (omega (arith, length-slice (suc l) r ws inside))
@@ -85,12 +85,12 @@ module _ {sh : Shape} {bs : List ℕ} {t : Task} (now : Ready 7 sh bs t) (can : 
   unfolding readable
   housed = sound-housed sh run (and-right tested (soundRun sh run) can)
 
-  after : t .left < own .home
-  unfolding homePlace
+  after : t .left < own .homePlace
+  unfolding homePlaceOf
   after = now .fits .left (omega (arith, now .phase))
 
-  before : own .home < t .right
-  unfolding homePlace
+  before : own .homePlace < t .right
+  unfolding homePlaceOf
   before = now .fits .right-low (omega (arith, now .phase))
 
   within : 2 * t .right ≤ length bs
@@ -99,15 +99,15 @@ module _ {sh : Shape} {bs : List ℕ} {t : Task} (now : Ready 7 sh bs t) (can : 
   small : t .right ≤ 4294967295
   small = omega (arith, right-small now (omega arith))
 
-  taken : TakenFrom (occupied ws) (suc (t .left)) (t .right)
+  taken : TakenFrom (occupiedPlaces ws) (suc (t .left)) (t .right)
   taken =
       between-taken ws (t .left) (t .right) (omega (arith, within, words-count bs))
       (and-right (isLock (at ws (t .left)) && isLock (at ws (t .right))) (all isOccupied run) held)
 
-  pub home-taken : at ws (own .home) .occupied ≡ true
-  home-taken = sym (occupied-at ws (own .home)) ∙ taken (own .home) after before
+  pub home-taken : at ws (own .homePlace) .occupied ≡ true
+  home-taken = sym (occupied-at ws (own .homePlace)) ∙ taken (own .homePlace) after before
 
-  left-is : leftGap (occupied ws) (own .home) ≡ t .left
+  left-is : leftGap (occupiedPlaces ws) (own .homePlace) ≡ t .left
   unfolding isLock
   left-is =
       let locked =
@@ -115,14 +115,14 @@ module _ {sh : Shape} {bs : List ℕ} {t : Task} (now : Ready 7 sh bs t) (can : 
       (and-left (isLock (at ws (t .left)) && isLock (at ws (t .right))) (all isOccupied run) held) in
       gap-only
       gaps.left
-      (leftGap-is (occupied ws) (own .home) (occupied-at ws 0 ∙ guard-free now))
+      (leftGap-is (occupiedPlaces ws) (own .homePlace) (occupied-at ws 0 ∙ guard-free now))
       (record {
         side = omega (arith, after);
         free = occupied-at ws (t .left) ∙ void-free _ (and-left (isVoid (at ws (t .left))) _ locked);
         run = λ q x y n. taken q (omega (arith, n)) (omega (arith, before));
       })
 
-  pub left-beside : (l : End) → l ≡ leftEnd ws (own .home) → Beside bs l (own .home)
+  pub left-beside : (l : End) → l ≡ leftEnd ws (own .homePlace) → LeftCounted bs l (own .homePlace)
   unfolding leftEnd
   left-beside l is =
       housed-beside own bs (t .left) (t .right) after before within small housed l
@@ -131,7 +131,7 @@ module _ {sh : Shape} {bs : List ℕ} {t : Task} (now : Ready 7 sh bs t) (can : 
       (ap (λ (e : End). e .changes) is ∙ rw (left-is, add-one))
 
   pub left-read :
-      (l : End) → l ≡ leftEnd ws (own .home) →
+      (l : End) → l ≡ leftEnd ws (own .homePlace) →
       readFrom bs (l .gap .0) own ≡ readOf own (entriesBetween ws (t .left) (t .right))
   unfolding leftEnd
   left-read l is =

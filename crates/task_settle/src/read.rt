@@ -86,11 +86,11 @@ impl Settling {
     {
         let t = self.0;
         if readable(sh, table, t) {
-            let home = home_place(sh, t.key);
+            let h = home_place(sh, t.key);
             let remainder = remainder_of(sh, t.key);
-            let l = left_end(table, home);
-            let p = group_start(table, l, home);
-            let read = read_from(table, l.gap, p, home, remainder);
+            let l = left_end(table, h);
+            let p = group_start(table, l, h);
+            let read = read_from(table, l.gap, p, h, remainder);
             return Turn::Next(after_read(sh, t, read));
         }
         Turn::Next(Task {

@@ -79,12 +79,12 @@ judged fine ns = cond fine (cond (anyLocked ns) 7 0) 6
 
 -- the home's word, the guard beside it, and the other place's word with the guard beyond it
 abbrev judgedAt : Bool → ℕ → ℕ → ℕ → ℕ → ℕ
-judgedAt fine near home other far =
-    cond (taken home)
+judgedAt fine near homeAt other far =
+    cond (taken homeAt)
     (cond (taken other)
-    (judged fine (near ∷ home ∷ other ∷ far ∷ []))
-    (judged (eqb (bare other) 0 && among (bare home) (0x7000 ∷ 0x7001 ∷ [])) (near ∷ home ∷ other ∷ [])))
-    (judged (eqb (bare home) 0) (home ∷ []))
+    (judged fine (near ∷ homeAt ∷ other ∷ far ∷ []))
+    (judged (eqb (bare other) 0 && among (bare homeAt) (0x7000 ∷ 0x7001 ∷ [])) (near ∷ homeAt ∷ other ∷ [])))
+    (judged (eqb (bare homeAt) 0) (homeAt ∷ []))
 
 abbrev atFirst : ℕ → Bool
 atFirst key = ltb key 2
@@ -99,11 +99,11 @@ refusedAt t key =
 
 -- what is answered where nothing is refused: 0 absent with room, 1 present, 8 absent and both places occupied
 abbrev standsAt : Small → ℕ → ℕ → ℕ → ℕ
-standsAt t key home other =
-    cond (taken home)
+standsAt t key homeAt other =
+    cond (taken homeAt)
     (cond (taken other)
     (cond (among key (keysByHand t)) 1 8)
-    (cond (eqb (bare home) (0x7000 + key % 2)) 1 0))
+    (cond (eqb (bare homeAt) (0x7000 + key % 2)) 1 0))
     0
 
 abbrev stands : Small → ℕ → ℕ

@@ -18,7 +18,7 @@ use Rattle.rules.specs.Bytes.{wordsOf, bytesOf}
 use Rattle.rules.specs.Shape.{shapeOf, inRange, homes, remainders, keys, places, rightGuard, fitsLength, goodTable}
 use Rattle.rules.specs.Entry.{placeOfHome, homeOfPlace, homeOf, remainderOf, split, join}
 use Rattle.rules.specs.Entry.{sameHome, sameEntry, precedes}
-use Rattle.rules.specs.Table.{occupied, leftGap, lead, rightGap, cluster, endsInChange, rising, soundRun, virginPlaces}
+use Rattle.rules.specs.Table.{occupiedPlaces, leftGap, lead, rightGap, cluster, endsInChange, rising, soundRun, virginPlaces}
 use Rattle.rules.specs.Table.{deal, entriesBetween, clusterEntries, entryAt, entriesFrom, entries, list}
 use Rattle.rules.specs.Table.{soundAt, soundFrom, guardsVoid, sound, locked}
 use Rattle.rules.specs.Room.{Room, place, full, roomBeside, roomFor}
@@ -34,7 +34,7 @@ use Rattle.rules.specs.Fill.{figure, fill}
 unfoldable pub opened : Bool
 unfolding count all any wordOf numberOf isVoid wordsOf bytesOf inRange homes remainders keys places rightGuard
     fitsLength goodTable placeOfHome homeOfPlace homeOf remainderOf split join sameHome sameEntry precedes
-    occupied leftGap lead rightGap cluster endsInChange rising soundRun virginPlaces deal entriesBetween
+    occupiedPlaces leftGap lead rightGap cluster endsInChange rising soundRun virginPlaces deal entriesBetween
     clusterEntries entryAt entriesFrom entries list soundAt soundFrom guardsVoid sound locked roomBeside
     roomFor holds insert ascend hasHome endsGroup lay around soundAround lockedAround findIn find layRun
     enlargedFrom addAt putIn put zeros puts tooMany buildIn build atFront listIn listing figure fill
@@ -205,7 +205,7 @@ locks-aside = refl
 abbrev unlessOther : Shape → List ℕ → List ℕ → Bool
 unlessOther sh ns vs =
     implies
-    (samePlaces (occupied (tableOf ns)) (occupied (tableOf vs)) && sameList (listOf sh ns) (listOf sh vs))
+    (samePlaces (occupiedPlaces (tableOf ns)) (occupiedPlaces (tableOf vs)) && sameList (listOf sh ns) (listOf sh vs))
     (sameList ns vs)
 
 abbrev noOther : Shape → List (List ℕ) → Bool
@@ -245,8 +245,8 @@ adds sh ns key (leaves a bytes) =
     && not (locked (wordsOf bytes))
     && sameList (list sh (wordsOf bytes)) (withKey key (listOf sh ns))
     && samePlaces
-    (occupied (wordsOf bytes))
-    (withPlace (roomFor sh (occupied (tableOf ns)) (split sh key .home)) (occupied (tableOf ns)))
+    (occupiedPlaces (wordsOf bytes))
+    (withPlace (roomFor sh (occupiedPlaces (tableOf ns)) (split sh key .homePlace)) (occupiedPlaces (tableOf ns)))
 
 abbrev putAsDemanded : Shape → List ℕ → ℕ → Leaves (List ℕ) → Bool
 putAsDemanded sh ns key result =
@@ -309,15 +309,15 @@ build-small = refl
 -- ---- "A refusal returns its number .. nothing lent changes": 1 and 2
 
 -- a shape, and how many bytes are lent
-record Lent : Type 0 where
+record Call : Type 0 where
   shape : Shape
   size : ℕ
 
-abbrev lent : ℕ → ℕ → ℕ → Lent
+abbrev lent : ℕ → ℕ → ℕ → Call
 lent m r n = record { shape = shapeOf m r; size = n }
 
 -- m and r out of range on either side, and lengths that are not 2 × (2^m + 2)
-abbrev badlyLent : List Lent
+abbrev badlyLent : List Call
 badlyLent =
     lent 0 1 6 ∷ lent 21 1 8 ∷ lent 1 0 8 ∷ lent 1 13 8 ∷ lent 1 1 0 ∷ lent 1 1 6 ∷ lent 1 1 7 ∷ lent 1 1 9
     ∷ lent 1 1 10 ∷ lent 2 1 8 ∷ []
@@ -331,7 +331,7 @@ refuses1 m r bytes key =
     && same (listing m r bytes (9 ∷ [])) (leaves (refuses 1) (9 ∷ []))
     && sameAnswer (fill m r bytes) (refuses 1)
 
-abbrev refusesBadlyLent : Lent → Bool
+abbrev refusesBadlyLent : Call → Bool
 refusesBadlyLent l =
     every
     (refuses1 (l .shape .m) (l .shape .r) (replicate (l .size) 0xFF))
@@ -342,10 +342,10 @@ unfolding opened
 refuses-1 = refl
 
 -- the least and the largest m and r are not refused, and the next m is, whatever the length
-abbrev goodLent : Lent → Bool
+abbrev goodLent : Call → Bool
 goodLent l = goodTable (l .shape) (l .size)
 
-abbrev wellLent : List Lent
+abbrev wellLent : List Call
 wellLent = lent 1 1 8 ∷ lent 1 12 8 ∷ lent 20 1 2097156 ∷ lent 20 12 2097156 ∷ []
 
 pub largest-good : (every goodLent wellLent && not (goodLent (lent 21 1 4194308))) ≡ true
@@ -372,7 +372,7 @@ refuses-2 = refl
 -- a sound unlocked table is what laying its keys over its occupied places gives, so no other is like it
 abbrev laidAgain : List ℕ → Bool
 laidAgain ns =
-    sameList (inBytes ns) (bytesOf (lay (entries (tableOf ns)) 0 (occupied (tableOf ns)) (entries (tableOf ns))))
+    sameList (inBytes ns) (bytesOf (lay (entries (tableOf ns)) 0 (occupiedPlaces (tableOf ns)) (entries (tableOf ns))))
 
 abbrev asDemanded : Shape → List ℕ → Bool
 asDemanded sh ns = listAscends sh ns && laidAgain ns && findsListed sh ns && putsAsDemanded sh ns

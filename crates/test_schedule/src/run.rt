@@ -13,7 +13,7 @@ ghost use mathlib.Core.Path.{_≡_};
 ghost use Prim.Native.Nat.{_≤_};
 ghost use lib.ListN.{length};
 
-pub enum Stage {
+pub enum Reached {
     AtFirst,
     AtSecond(First),
     Among(First),
@@ -22,14 +22,14 @@ pub enum Stage {
 
 // How far the run is, its records, and how many bytes the last line printed.
 pub struct Run {
-    pub stage: Stage,
+    pub stage: Reached,
     pub tasks: [Task; 16],
     pub wrote: usize,
 }
 
 pub fn begun() -> Run {
     Run {
-        stage: Stage::AtFirst,
+        stage: Reached::AtFirst,
         tasks: [blank(); 16],
         wrote: 0,
     }
@@ -41,7 +41,7 @@ pub fn ended(run: Run, n: usize) -> Run
 {
     let tasks = run.tasks;
     Run {
-        stage: Stage::Ended,
+        stage: Reached::Ended,
         tasks: tasks,
         wrote: n,
     }
@@ -50,7 +50,7 @@ pub fn ended(run: Run, n: usize) -> Run
 pub fn is_ended(run: Run) -> bool {
     let stage = run.stage;
     match stage {
-        Stage::Ended => true,
+        Reached::Ended => true,
         _ => false,
     }
 }
@@ -64,7 +64,7 @@ fn at_first(run: Run, line: &[u8], out: &mut [u8]) -> Run
     let first = first_line(line);
     match first {
         FirstLine::Good(f) => Run {
-            stage: Stage::AtSecond(f),
+            stage: Reached::AtSecond(f),
             tasks: tasks,
             wrote: 0,
         },
@@ -80,7 +80,7 @@ fn at_second(run: Run, f: First, line: &[u8], table: &mut [u8], out: &mut [u8]) 
     let tasks = run.tasks;
     if second_line(line, table) {
         return Run {
-            stage: Stage::Among(f),
+            stage: Reached::Among(f),
             tasks: tasks,
             wrote: 0,
         };
@@ -96,7 +96,7 @@ fn among(run: Run, f: First, line: &[u8], table: &mut [u8], out: &mut [u8]) -> R
     let acted = action(f, before, line, table, out);
     let tasks = acted.tasks;
     Run {
-        stage: Stage::Among(f),
+        stage: Reached::Among(f),
         tasks: tasks,
         wrote: acted.wrote,
     }
@@ -109,22 +109,22 @@ pub fn line_in(run: Run, line: &[u8], table: &mut [u8], out: &mut [u8]) -> Run
 {
     let stage = run.stage;
     match stage {
-        Stage::AtFirst => at_first(run, line, out),
-        Stage::AtSecond(f) => {
+        Reached::AtFirst => at_first(run, line, out),
+        Reached::AtSecond(f) => {
             let used = f.used;
             if used <= table.len() {
                 return at_second(run, f, line, &mut table[0..used], out);
             }
             ended(run, 0)
         }
-        Stage::Among(f) => {
+        Reached::Among(f) => {
             let used = f.used;
             if used <= table.len() {
                 return among(run, f, line, &mut table[0..used], out);
             }
             ended(run, 0)
         }
-        Stage::Ended => ended(run, 0),
+        Reached::Ended => ended(run, 0),
     }
 }
 
@@ -150,9 +150,9 @@ pub fn end_of(run: Run, table: &[u8], out: &mut [u8]) -> usize
 {
     let stage = run.stage;
     match stage {
-        Stage::AtFirst => put_bad(out),
-        Stage::AtSecond(_) => put_bad(out),
-        Stage::Among(f) => put_table(f, table, out),
-        Stage::Ended => 0,
+        Reached::AtFirst => put_bad(out),
+        Reached::AtSecond(_) => put_bad(out),
+        Reached::Among(f) => put_table(f, table, out),
+        Reached::Ended => 0,
     }
 }

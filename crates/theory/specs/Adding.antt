@@ -13,7 +13,7 @@ use lib.Seq.{set-append-seam}
 use Rattle.rules.specs.Lists.{any}
 use Rattle.rules.specs.Word.{Word}
 use Rattle.rules.specs.Entry.{Entry}
-use Rattle.rules.specs.Table.{occupied, locked}
+use Rattle.rules.specs.Table.{occupiedPlaces, locked}
 use Rattle.rules.specs.Lay.{holds, insert}
 use Rattle.rules.specs.Put.{layRun}
 use Rattle.theory.specs.Run.{Asc, none, Run}
@@ -90,8 +90,8 @@ pub enlarged :
     {d b a c : ℕ} (e : Entry) (ys : List Entry) (n : ℕ) →
     d ≤ 4096 →
     e .remainder < d →
-    a ≤ e .home →
-    e .home < a + suc n →
+    a ≤ e .homePlace →
+    e .homePlace < a + suc n →
     a * 4096 ≤ b →
     c ≤ a + suc n →
     length ys ≡ n → holds e ys ≡ false → Asc d c b ys → Run d a (layRun a (insert e ys)) (insert e ys)
@@ -116,7 +116,7 @@ pub insert-between :
     d ≤ 4096 →
     e .remainder < d →
     Asc d n b xs →
-    n ≤ e .home → e .home < m → Asc d c (m * 4096) zs → insert e (xs ++ (ys ++ zs)) ≡ xs ++ (insert e ys ++ zs)
+    n ≤ e .homePlace → e .homePlace < m → Asc d c (m * 4096) zs → insert e (xs ++ (ys ++ zs)) ≡ xs ++ (insert e ys ++ zs)
 insert-between n m e {xs} ys {zs} s low up first last down =
     insert-back e (ys ++ zs) (omega arith) (every.all-map (λ f lt. omega arith) (asc-below s up))
     ∙ ap (λ (es : List Entry). xs ++ es) (insert-front e ys s down (omega arith))
@@ -125,7 +125,7 @@ insert-between n m e {xs} ys {zs} s low up first last down =
 pub record Added (d : ℕ) (ws : List Word) (es : List Entry) (e : Entry) (p : ℕ) (vs : List Word) : Type 0 where
   pub table : Table d vs (insert e es)
   pub free : locked ws ≡ false → locked vs ≡ false
-  pub places : occupied vs ≡ set (occupied ws) p true
+  pub places : occupiedPlaces vs ≡ set (occupiedPlaces ws) p true
 
 pub locked-append : (u v : List Word) → locked (u ++ v) ≡ (locked u || locked v)
 unfolding locked any
@@ -151,23 +151,23 @@ replaced-free u mid v l here free =
     inner : (locked mid ≡ false) × (locked v ≡ false)
     inner = or-parts (locked mid) (locked v) (sym (locked-append mid v) ∙ outer .1)
 
-occupied-append : (u v : List Word) → occupied (u ++ v) ≡ occupied u ++ occupied v
-unfolding occupied
+occupied-append : (u v : List Word) → occupiedPlaces (u ++ v) ≡ occupiedPlaces u ++ occupiedPlaces v
+unfolding occupiedPlaces
 occupied-append u v = map-append isOccupied u v
 
 -- the occupied places with the gap between two parts filled
 filled :
     (u : List Word) (g : Word) (v : List Word) →
-    set (occupied (u ++ (g ∷ v))) (length u) true ≡ occupied u ++ (true ∷ occupied v)
-unfolding occupied
+    set (occupiedPlaces (u ++ (g ∷ v))) (length u) true ≡ occupiedPlaces u ++ (true ∷ occupiedPlaces v)
+unfolding occupiedPlaces
 filled u g v =
     ap (λ (os : List Bool). set os (length u) true) (map-append isOccupied u (g ∷ v))
-    ∙ ap (λ (n : ℕ). set (occupied u ++ (g .occupied ∷ occupied v)) n true) (sym (length-map u isOccupied))
-    ∙ set-append-seam (occupied u) (g .occupied) (occupied v) true
+    ∙ ap (λ (n : ℕ). set (occupiedPlaces u ++ (g .occupied ∷ occupiedPlaces v)) n true) (sym (length-map u isOccupied))
+    ∙ set-append-seam (occupiedPlaces u) (g .occupied) (occupiedPlaces v) true
 
 run-all :
     {d a : ℕ} {run : List Word} {es : List Entry} (n : ℕ) → Run d a run es → length es ≡ n →
-    occupied run ≡ replicate n true
+    occupiedPlaces run ≡ replicate n true
 run-all {run = run} n r size =
     all-occupied run (run-occupied r) ∙ ap (λ (k : ℕ). replicate k true) (sym (r .size) ∙ size)
 
@@ -181,7 +181,7 @@ replicate-last (suc n) os = ap (λ (us : List Bool). true ∷ us) (replicate-las
 
 -- an empty home is filled
 pub add-home :
-    {d : ℕ} {ws : List Word} {es : List Entry} (e : Entry) (t : AtGap d ws es (e .home)) →
+    {d : ℕ} {ws : List Word} {es : List Entry} (e : Entry) (t : AtGap d ws es (e .homePlace)) →
     d ≤ 4096 →
     e .remainder < d →
     0 < length (t .u) →
@@ -224,19 +224,19 @@ add-home {d} {ws} {es} e t s low some more =
       places =
           occupied-append (t .u) (l ++ t .v)
           ∙ ap
-          (λ (os : List Bool). occupied (t .u) ++ os)
-          (occupied-append l (t .v) ∙ ap (λ (os : List Bool). os ++ occupied (t .v)) (run-all 1 here refl))
+          (λ (os : List Bool). occupiedPlaces (t .u) ++ os)
+          (occupied-append l (t .v) ∙ ap (λ (os : List Bool). os ++ occupiedPlaces (t .v)) (run-all 1 here refl))
           ∙ sym
-          (ap (λ (vs : List Word). set (occupied vs) (length (t .u)) true) (t .words) ∙ filled (t .u) (t .g) (t .v));
+          (ap (λ (vs : List Word). set (occupiedPlaces vs) (length (t .u)) true) (t .words) ∙ filled (t .u) (t .g) (t .v));
     }
   where
     l : List Word
     l = layRun (length (t .u)) (insert e [])
 
-    at-home : length (t .u) ≤ e .home
+    at-home : length (t .u) ≤ e .homePlace
     at-home = omega (arith, t .here)
 
-    at-home′ : e .home < suc (length (t .u))
+    at-home′ : e .homePlace < suc (length (t .u))
     at-home′ = omega (arith, t .here)
 
     here : Run d (length (t .u)) l (e ∷ [])
@@ -246,7 +246,7 @@ add-home {d} {ws} {es} e t s low some more =
     long = length-append (t .u) l
 
 -- the cluster about the home, enlarged by the gap left of it or by the gap right of it: as a run
-module _ {d : ℕ} {ws : List Word} {es : List Entry} (e : Entry) (t : InRun d ws es (e .home))
+module _ {d : ℕ} {ws : List Word} {es : List Entry} (e : Entry) (t : InRun d ws es (e .homePlace))
     (s : d ≤ 4096) (low : e .remainder < d) (absent : holds e (t .ys) ≡ false)
   where
     in-order :
@@ -313,15 +313,15 @@ module _ {d : ℕ} {ws : List Word} {es : List Entry} (e : Entry) (t : InRun d w
           places =
               occupied-append (t .u) (l ++ (t .h ∷ t .v))
               ∙ ap
-              (λ (os : List Bool). occupied (t .u) ++ os)
+              (λ (os : List Bool). occupiedPlaces (t .u) ++ os)
               (occupied-append l (t .h ∷ t .v)
-              ∙ ap (λ (os : List Bool). os ++ occupied (t .h ∷ t .v)) (run-all (suc (length (t .run))) here one-more)
+              ∙ ap (λ (os : List Bool). os ++ occupiedPlaces (t .h ∷ t .v)) (run-all (suc (length (t .run))) here one-more)
               ∙ ap
-              (λ (os : List Bool). true ∷ (os ++ occupied (t .h ∷ t .v)))
+              (λ (os : List Bool). true ∷ (os ++ occupiedPlaces (t .h ∷ t .v)))
               (sym (run-all (length (t .run)) (t .inside) (t .inside .size)))
               ∙ ap (λ (os : List Bool). true ∷ os) (sym (occupied-append (t .run) (t .h ∷ t .v))))
               ∙ sym
-              (ap (λ (vs : List Word). set (occupied vs) (length (t .u)) true) (t .words)
+              (ap (λ (vs : List Word). set (occupiedPlaces vs) (length (t .u)) true) (t .words)
               ∙ filled (t .u) (t .g) (t .run ++ (t .h ∷ t .v)));
         }
       where
@@ -339,7 +339,7 @@ module _ {d : ℕ} {ws : List Word} {es : List Entry} (e : Entry) (t : InRun d w
         0 < length (t .v) →
         Added d ws es e (suc (length (t .u)) + length (t .run))
         (t .u ++ (t .g ∷ (layRun (suc (length (t .u))) (insert e (t .ys)) ++ t .v)))
-    unfolding occupied
+    unfolding occupiedPlaces
     add-right more =
         record {
           table =
@@ -364,18 +364,18 @@ module _ {d : ℕ} {ws : List Word} {es : List Entry} (e : Entry) (t : InRun d w
           places =
               occupied-append (t .u) (t .g ∷ (l ++ t .v))
               ∙ ap
-              (λ (os : List Bool). occupied (t .u) ++ (t .g .occupied ∷ os))
+              (λ (os : List Bool). occupiedPlaces (t .u) ++ (t .g .occupied ∷ os))
               (occupied-append l (t .v)
-              ∙ ap (λ (os : List Bool). os ++ occupied (t .v)) (run-all (suc (length (t .run))) here one-more)
-              ∙ replicate-last (length (t .run)) (occupied (t .v))
+              ∙ ap (λ (os : List Bool). os ++ occupiedPlaces (t .v)) (run-all (suc (length (t .run))) here one-more)
+              ∙ replicate-last (length (t .run)) (occupiedPlaces (t .v))
               ∙ ap
-              (λ (os : List Bool). os ++ (true ∷ occupied (t .v)))
+              (λ (os : List Bool). os ++ (true ∷ occupiedPlaces (t .v)))
               (sym (run-all (length (t .run)) (t .inside) (t .inside .size))))
-              ∙ sym (append-assoc (occupied (t .u)) (t .g .occupied ∷ occupied (t .run)) (true ∷ occupied (t .v)))
-              ∙ ap (λ (os : List Bool). os ++ (true ∷ occupied (t .v))) (sym (occupied-append (t .u) (t .g ∷ t .run)))
+              ∙ sym (append-assoc (occupiedPlaces (t .u)) (t .g .occupied ∷ occupiedPlaces (t .run)) (true ∷ occupiedPlaces (t .v)))
+              ∙ ap (λ (os : List Bool). os ++ (true ∷ occupiedPlaces (t .v))) (sym (occupied-append (t .u) (t .g ∷ t .run)))
               ∙ sym (filled (t .u ++ (t .g ∷ t .run)) (t .h) (t .v))
               ∙ ap₂
-              (λ (vs : List Word) (n : ℕ). set (occupied vs) n true)
+              (λ (vs : List Word) (n : ℕ). set (occupiedPlaces vs) n true)
               (append-assoc (t .u) (t .g ∷ t .run) (t .h ∷ t .v) ∙ sym (t .words))
               far;
         }

@@ -14,7 +14,7 @@ use Rattle.rules.specs.Lists.{any}
 use Rattle.rules.specs.Word.{Word}
 use Rattle.rules.specs.Entry.{Entry, sameEntry, precedes}
 use Rattle.rules.specs.Shape.{homes, remainders, places, rightGuard}
-use Rattle.rules.specs.Table.{occupied, locked}
+use Rattle.rules.specs.Table.{occupiedPlaces, locked}
 use Rattle.rules.specs.Room.{place, full, roomFor}
 use Rattle.rules.specs.Lay.{holds, insert, ascend}
 use Rattle.rules.specs.Put.{addAt, Outcome, putIn, wordsAfter}
@@ -114,7 +114,7 @@ pub table-asc : {d : ℕ} {ws : List Word} {es : List Entry} → d ≤ 4096 → 
 table-asc s (table void right) = asc-weaken (le-refl _) (omega arith) (right-asc s right)
 
 -- an entry of those has its home place and its remainder in the shape
-pub in-home : {sh : Shape} {us : List Entry} (e : Entry) → Roomy sh us → holds e us ≡ true → HomePlace sh (e .home)
+pub in-home : {sh : Shape} {us : List Entry} (e : Entry) → Roomy sh us → holds e us ≡ true → HomePlace sh (e .homePlace)
 unfolding rightGuard
 in-home e u h =
     let w = held-all e (asc-all (u .asc)) h in
@@ -130,11 +130,11 @@ after-put sh ws e = wordsAfter ws (putIn sh ws e)
 -- the occupied places after a put
 abbrev filledFor : Shape → List Bool → Entry → Bool → List Bool
 filledFor sh os e true = os
-filledFor sh os e false = fillPlaces sh os (e .home)
+filledFor sh os e false = fillPlaces sh os (e .homePlace)
 
 pub record Put (sh : Shape) (ws : List Word) (es : List Entry) (e : Entry) (vs : List Word) : Type 0 where
   pub state : State sh vs (insert e es)
-  pub places : occupied vs ≡ filledFor sh (occupied ws) e (holds e es)
+  pub places : occupiedPlaces vs ≡ filledFor sh (occupiedPlaces ws) e (holds e es)
 
 pub place≢full : {p : ℕ} → place p ≡ full → ⊥
 place≢full e = let z : _≡_ {A = ℕ} 0 1 = cc in omega arith
@@ -158,7 +158,7 @@ added-state {sh} {ws} {es} {e} {p} {vs} t added =
       size =
           sym (occupied-length vs)
           ∙ ap length (added .places)
-          ∙ length-set (occupied ws) p true
+          ∙ length-set (occupiedPlaces ws) p true
           ∙ occupied-length ws
           ∙ t .size;
     }
@@ -174,27 +174,27 @@ module _ {sh : Shape} {us : List Entry} {ws : List Word} {es : List Entry} (e : 
     put-found h =
         record {
           state = subst (State sh ws) (sym (insert-held e (u .low) es-asc h)) t;
-          places = ap (filledFor sh (occupied ws) e) (sym h);
+          places = ap (filledFor sh (occupiedPlaces ws) e) (sym h);
         }
 
     put-inserted :
         (p : ℕ) →
         holds e es ≡ false →
-        roomFor sh (occupied ws) (e .home) ≡ place p →
+        roomFor sh (occupiedPlaces ws) (e .homePlace) ≡ place p →
         Added (remainders sh) ws es e p (addAt ws e p) → Put sh ws es e (addAt ws e p)
     unfolding fillPlaces
     put-inserted p h room added =
         record {
           state = added-state t added;
-          places = added .places ∙ ap (fillAt (occupied ws)) (sym room) ∙ ap (filledFor sh (occupied ws) e) (sym h);
+          places = added .places ∙ ap (fillAt (occupiedPlaces ws)) (sym room) ∙ ap (filledFor sh (occupiedPlaces ws) e) (sym h);
         }
 
     -- there is room
     pub put-not-full :
-        Inside es us → holds e us ≡ true → holds e es ≡ false → roomFor sh (occupied ws) (e .home) ≡ full → ⊥
+        Inside es us → holds e us ≡ true → holds e es ≡ false → roomFor sh (occupiedPlaces ws) (e .homePlace) ≡ full → ⊥
     unfolding places rightGuard
     put-not-full inside here h room =
-        place≢full (sym (room-place (e .home) (table-guarded sh (t .size) (t .table)) fewer .1) ∙ room)
+        place≢full (sym (room-place (e .homePlace) (table-guarded sh (t .size) (t .table)) fewer .1) ∙ room)
       where
         wide : Asc (remainders sh) (places sh) 4096 (insert e es)
         wide =
@@ -208,7 +208,7 @@ module _ {sh : Shape} {us : List Entry} {ws : List Word} {es : List Entry} (e : 
             })
             (asc-weaken (le-refl _) (le-of-eq (t .size)) es-asc)
 
-        fewer : taken (occupied ws) < homes sh
+        fewer : taken (occupiedPlaces ws) < homes sh
         fewer =
             omega (
               arith,
@@ -233,7 +233,7 @@ put-room {sh} {us} {ws} {es} e u t inside here =
 -- tables with the same places and the same entries are one
 pub state-unique :
     {sh : Shape} {ws vs : List Word} {es : List Entry} →
-    remainders sh ≤ 4096 → State sh ws es → State sh vs es → occupied ws ≡ occupied vs → ws ≡ vs
+    remainders sh ≤ 4096 → State sh ws es → State sh vs es → occupiedPlaces ws ≡ occupiedPlaces vs → ws ≡ vs
 state-unique s t u alike = table-unique s (t .table) (t .free) (u .table) (u .free) alike
 
 module _ {sh : Shape} {us : List Entry} (u : Roomy sh us) where
@@ -246,7 +246,7 @@ module _ {sh : Shape} {us : List Entry} (u : Roomy sh us) where
       (u .low)
       (p .state)
       (put-found e u t h .state)
-      (p .places ∙ ap (filledFor sh (occupied ws) e) h)
+      (p .places ∙ ap (filledFor sh (occupiedPlaces ws) e) h)
     where
       p : Put sh ws es e (after-put sh ws e)
       p = put-room e u t inside here
@@ -302,14 +302,14 @@ module _ {sh : Shape} {us : List Entry} (u : Roomy sh us) where
       (ef .places
       ∙ ap₂
       (λ (os : List Bool) (b : Bool). filledFor sh os f b)
-      (pe .places ∙ ap (filledFor sh (occupied ws) e) e-new)
+      (pe .places ∙ ap (filledFor sh (occupiedPlaces ws) e) e-new)
       (holds-insert f e es ∙ ap₂ _||_ apart′ f-new)
       ∙ fills-commute (table-guarded sh (t .size) (t .table)) (in-home e u e-in) (in-home f u f-in)
       ∙ sym
       (fe .places
       ∙ ap₂
       (λ (os : List Bool) (b : Bool). filledFor sh os e b)
-      (pf .places ∙ ap (filledFor sh (occupied ws) f) f-new)
+      (pf .places ∙ ap (filledFor sh (occupiedPlaces ws) f) f-new)
       (holds-insert e f es ∙ ap₂ _||_ apart e-new)))
     where
       pe : Put sh ws es e (after-put sh ws e)

@@ -16,7 +16,7 @@ use Rattle.rules.specs.declared.Shape.{Shape}
 use Rattle.rules.specs.Lists.{all}
 use Rattle.rules.specs.Word.{Word, zeroWord, isVoid}
 use Rattle.rules.specs.Shape.{places, rightGuard}
-use Rattle.rules.specs.Table.{at, occupied, leftGap, rightGap, between, guardsVoid}
+use Rattle.rules.specs.Table.{at, occupiedPlaces, leftGap, rightGap, between, guardsVoid}
 use Rattle.theory.specs.Dealt.{isOccupied, and-left, and-right, and-both}
 use Rattle.theory.specs.Gaps.{Side, Free, Taken, TakenFrom, Guarded, HomePlace, Gap, gap-is, gap-first}
 use Rattle.theory.specs.Gaps.{gap-below, gap-above}
@@ -124,7 +124,7 @@ all-of f (w ∷ ws) h = and-both _ _ (h 0 (omega arith)) (all-of f ws (λ i lt. 
 -- all is occupied between two places if each place there is
 pub between-occupied :
     (ws : List Word) (l r : ℕ) →
-    r ≤ length ws → TakenFrom (occupied ws) (suc l) r → all isOccupied (between ws l r) ≡ true
+    r ≤ length ws → TakenFrom (occupiedPlaces ws) (suc l) r → all isOccupied (between ws l r) ≡ true
 between-occupied ws l r low taken =
     all-of
     isOccupied
@@ -138,7 +138,7 @@ between-occupied ws l r low taken =
 -- ---- the gaps of an occupied home place
 
 pub void-guarded :
-    (sh : Shape) (ws : List Word) → length ws ≡ places sh → guardsVoid sh ws ≡ true → Guarded sh (occupied ws)
+    (sh : Shape) (ws : List Word) → length ws ≡ places sh → guardsVoid sh ws ≡ true → Guarded sh (occupiedPlaces ws)
 unfolding guardsVoid
 void-guarded sh ws size void =
     record {
@@ -148,17 +148,17 @@ void-guarded sh ws size void =
     }
 
 pub record CutHome (ws : List Word) (h : ℕ) : Type 0 where
-  pub after : leftGap (occupied ws) h < h
-  pub before : h < rightGap (occupied ws) h
-  pub inside : rightGap (occupied ws) h < length ws
-  pub taken : all isOccupied (between ws (leftGap (occupied ws) h) (rightGap (occupied ws) h)) ≡ true
+  pub after : leftGap (occupiedPlaces ws) h < h
+  pub before : h < rightGap (occupiedPlaces ws) h
+  pub inside : rightGap (occupiedPlaces ws) h < length ws
+  pub taken : all isOccupied (between ws (leftGap (occupiedPlaces ws) h) (rightGap (occupiedPlaces ws) h)) ≡ true
 
 pub cut-home :
     (sh : Shape) (ws : List Word) (h : ℕ) →
     length ws ≡ places sh →
     guardsVoid sh ws ≡ true → HomePlace sh h → at ws h .occupied ≡ true → CutHome ws h
 unfolding places rightGuard
-cut-home sh ws h size void home full =
+cut-home sh ws h size void homeAt full =
     record {
       after = omega (arith, below .side, apart l (below .free));
       before = omega (arith, above .side, apart r (above .free));
@@ -166,29 +166,29 @@ cut-home sh ws h size void home full =
       taken = between-occupied ws l r (omega (arith, end)) (λ q x y. go q x y (leb q h) refl);
     }
   where
-    guarded : Guarded sh (occupied ws)
+    guarded : Guarded sh (occupiedPlaces ws)
     guarded = void-guarded sh ws size void
 
     l : ℕ
-    l = leftGap (occupied ws) h
+    l = leftGap (occupiedPlaces ws) h
 
     r : ℕ
-    r = rightGap (occupied ws) h
+    r = rightGap (occupiedPlaces ws) h
 
-    below : Gap gaps.left (occupied ws) h l
+    below : Gap gaps.left (occupiedPlaces ws) h l
     below = gap-is gaps.left h guarded
 
-    above : Gap gaps.right (occupied ws) h r
+    above : Gap gaps.right (occupiedPlaces ws) h r
     above = gap-is gaps.right h guarded
 
     end : r ≤ rightGuard sh
-    end = gap-first gaps.right (rightGuard sh) above (omega (arith, home .last)) (guarded .right)
+    end = gap-first gaps.right (rightGuard sh) above (omega (arith, homeAt .last)) (guarded .right)
 
     -- a gap is another place than the home
-    apart : (p : ℕ) → Free (occupied ws) p → p ≡ h → ⊥
+    apart : (p : ℕ) → Free (occupiedPlaces ws) p → p ≡ h → ⊥
     apart p free same =
-        true≢false (sym full ∙ sym (occupied-at ws h) ∙ ap (λ (q : ℕ). getD (occupied ws) q false) (sym same) ∙ free)
+        true≢false (sym full ∙ sym (occupied-at ws h) ∙ ap (λ (q : ℕ). getD (occupiedPlaces ws) q false) (sym same) ∙ free)
 
-    go : (q : ℕ) → suc l ≤ q → q < r → (b : Bool) → leb q h ≡ b → Taken (occupied ws) q
+    go : (q : ℕ) → suc l ≤ q → q < r → (b : Bool) → leb q h ≡ b → Taken (occupiedPlaces ws) q
     go q x y true e = gap-below gaps.left below q x (omega (arith, leb-true q h e))
     go q x y false e = gap-above gaps.right above q (omega (arith, leb-false q h e)) y

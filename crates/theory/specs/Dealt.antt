@@ -56,7 +56,7 @@ pub data Dealt (d : ℕ) : List ℕ → List Word → List Entry → Type 0 wher
   dealt-ends :
       {h : ℕ} {hs : List ℕ} {w : Word} {ws : List Word} {e : Entry} {es : List Entry} →
       w .change ≡ true →
-      w .remainder < d → e .home ≡ h → e .remainder ≡ w .remainder → Dealt d hs ws es →
+      w .remainder < d → e .homePlace ≡ h → e .remainder ≡ w .remainder → Dealt d hs ws es →
       Dealt d (h ∷ hs) (w ∷ ws) (e ∷ es)
   -- a word with the next of its group after it
   dealt-goes :
@@ -64,7 +64,7 @@ pub data Dealt (d : ℕ) : List ℕ → List Word → List Entry → Type 0 wher
       w .change ≡ false →
       w .remainder < d →
       w .remainder < v .remainder →
-      e .home ≡ h →
+      e .homePlace ≡ h →
       e .remainder ≡ w .remainder → Dealt d (h ∷ hs) (v ∷ ws) (f ∷ es) → Dealt d (h ∷ hs) (w ∷ v ∷ ws) (e ∷ f ∷ es)
 
 -- ---- from the rules: a run whose groups are low, rising and ended, with a home for each group
@@ -87,7 +87,7 @@ dealt-step d h hs w v ws low rise n rest = go (w .change) refl
     go :
         (b : Bool) →
         w .change ≡ b →
-        Dealt d (h ∷ hs) (w ∷ v ∷ ws) (record { home = h; remainder = w .remainder } ∷ deal (due b (h ∷ hs)) (v ∷ ws))
+        Dealt d (h ∷ hs) (w ∷ v ∷ ws) (record { homePlace = h; remainder = w .remainder } ∷ deal (due b (h ∷ hs)) (v ∷ ws))
     go true e = dealt-ends e low refl refl (rest hs (omega (arith, rw e at n)))
     go false e =
         dealt-goes
@@ -134,14 +134,14 @@ dealt d (w ∷ v ∷ ws) ends low rise (h ∷ hs) n =
     (and-right (w .change || ltb (w .remainder) (v .remainder)) _ rise))
 
 -- ---- back to the rules, and what dealing gives
-pub entry-path : {e f : Entry} → e .home ≡ f .home → e .remainder ≡ f .remainder → e ≡ f
-entry-path p q = λ i. record { home = p i; remainder = q i }
+pub entry-path : {e f : Entry} → e .homePlace ≡ f .homePlace → e .remainder ≡ f .remainder → e ≡ f
+entry-path p q = λ i. record { homePlace = p i; remainder = q i }
 
 deal-cons :
     (h : ℕ) (hs : List ℕ) (w : Word) (ws : List Word) (b : Bool) →
-    w .change ≡ b → deal (h ∷ hs) (w ∷ ws) ≡ record { home = h; remainder = w .remainder } ∷ deal (due b (h ∷ hs)) ws
+    w .change ≡ b → deal (h ∷ hs) (w ∷ ws) ≡ record { homePlace = h; remainder = w .remainder } ∷ deal (due b (h ∷ hs)) ws
 unfolding deal
-deal-cons h hs w ws b c = ap (λ (x : Bool). record { home = h; remainder = w .remainder } ∷ deal (due x (h ∷ hs)) ws) c
+deal-cons h hs w ws b c = ap (λ (x : Bool). record { homePlace = h; remainder = w .remainder } ∷ deal (due x (h ∷ hs)) ws) c
 
 pub dealt-deal : {d : ℕ} {hs : List ℕ} {ws : List Word} {es : List Entry} → Dealt d hs ws es → deal hs ws ≡ es
 unfolding deal
@@ -228,7 +228,7 @@ Least b (e ∷ es) = b ≤ code e
 -- the first entry is the first word's, at the first home
 pub dealt-head :
     {d h : ℕ} {hs : List ℕ} {w : Word} {ws : List Word} {e : Entry} {es : List Entry} →
-    Dealt d (h ∷ hs) (w ∷ ws) (e ∷ es) → (e .home ≡ h) × (e .remainder ≡ w .remainder)
+    Dealt d (h ∷ hs) (w ∷ ws) (e ∷ es) → (e .homePlace ≡ h) × (e .remainder ≡ w .remainder)
 dealt-head (dealt-ends c l p q rest) = (p, q)
 dealt-head (dealt-goes c l r p q rest) = (p, q)
 
@@ -254,7 +254,7 @@ dealt-asc b s (dealt-ends {e = e} ch l p q rest) (rising-next k lt up) least =
     s
     rest
     up
-    (dealt-later (e .home) (e .remainder) (omega arith) (omega arith) rest up))
+    (dealt-later (e .homePlace) (e .remainder) (omega arith) (omega arith) rest up))
 dealt-asc b s (dealt-goes {e = e} ch l r p q rest) (rising-next k lt up) least =
     next
     least
@@ -265,17 +265,17 @@ dealt-asc b s (dealt-goes {e = e} ch l r p q rest) (rising-next k lt up) least =
 -- ---- an entry ends its group where its word has change
 ends-group :
     {d c k : ℕ} (e : Entry) {hs : List ℕ} {ws : List Word} {es : List Entry} →
-    e .home < k → Dealt d hs ws es → Rising c k hs → endsGroup e es ≡ true
+    e .homePlace < k → Dealt d hs ws es → Rising c k hs → endsGroup e es ≡ true
 unfolding endsGroup sameHome
 ends-group e u dealt-none up = refl
 ends-group e u (dealt-ends {e = f} c l p q rest) (rising-next k b up) =
-    ap not (ne-eqb _ _ (λ (same : e .home ≡ f .home). omega arith))
+    ap not (ne-eqb _ _ (λ (same : e .homePlace ≡ f .homePlace). omega arith))
 ends-group e u (dealt-goes {e = f} c l r p q rest) (rising-next k b up) =
-    ap not (ne-eqb _ _ (λ (same : e .home ≡ f .home). omega arith))
+    ap not (ne-eqb _ _ (λ (same : e .homePlace ≡ f .homePlace). omega arith))
 
-stays-group : (e f : Entry) (es : List Entry) → e .home ≡ f .home → endsGroup e (f ∷ es) ≡ false
+stays-group : (e f : Entry) (es : List Entry) → e .homePlace ≡ f .homePlace → endsGroup e (f ∷ es) ≡ false
 unfolding endsGroup sameHome
-stays-group e f es same = ap not (eq-eqb (e .home) (f .home) same)
+stays-group e f es same = ap not (eq-eqb (e .homePlace) (f .homePlace) same)
 
 pub word-path :
     {w v : Word} →

@@ -42,10 +42,10 @@ sites-beside right v a (suc n) h =
     (λ (ws : List Word). occupiedWord 0 (v a) false ∷ ws)
     (sites-beside right v (suc a) n (ap v (let e : suc a + n ≡ a + suc n = omega arith in e) ∙ h))
 
-home-outside : {es : List Entry} (q : ℕ) → All (λ (f : Entry). f .home ≡ q → ⊥) es → hasHome es q ≡ false
+home-outside : {es : List Entry} (q : ℕ) → All (λ (f : Entry). f .homePlace ≡ q → ⊥) es → hasHome es q ≡ false
 unfolding hasHome any
 home-outside q every.none = refl
-home-outside q (every.both {x = f} h hs) = rw (ne-eqb (f .home) q h, home-outside q hs)
+home-outside q (every.both {x = f} h hs) = rw (ne-eqb (f .homePlace) q h, home-outside q hs)
 
 -- no entry of the run has its home at the filled place
 not-home :
@@ -92,13 +92,13 @@ filled-loaded side x a es h =
 finish-laid :
     {d c m t : ℕ} {e : Entry} {es : List Entry} (side : Side) (a : ℕ) →
     Goes d c e m t es → t ≤ length es → hasHome es (stands side a (length es)) ≡ false →
-    a ≤ e .home → e .home < a + suc (length es) →
+    a ≤ e .homePlace → e .homePlace < a + suc (length es) →
     finish
     (wedge (index side (length es)) (occupiedWord (e .remainder) false false) (layRun (begins side a) es))
     (index side (length es))
     t
     m
-    (e .home - a)
+    (e .homePlace - a)
     ≡ layRun a (wedge t e es)
 unfolding finish
 finish-laid {m = m} {t = t} {e = e} {es = es} side a v h out p q =
@@ -112,10 +112,10 @@ finish-laid {m = m} {t = t} {e = e} {es = es} side a v h out p q =
     let carried : moves (distance i t) (loaded (wedge i key ls) ws) i t ≡ loaded (wedge t key ls) ws =
     moves-wedge (distance i t) i t key ls ws refl (omega (arith, index-le side n)) (omega arith) (omega arith) in
     ap
-    (λ (us : List Word). marked (moves (distance i t) us i t) m t (e .home - a))
+    (λ (us : List Word). marked (moves (distance i t) us i t) m t (e .homePlace - a))
     (filled-loaded side (e .remainder) a es out)
-    ∙ ap (λ (us : List Word). marked us m t (e .home - a)) carried
-    ∙ marked-loaded (wedge t key ls) ws m t (e .home - a)
+    ∙ ap (λ (us : List Word). marked us m t (e .homePlace - a)) carried
+    ∙ marked-loaded (wedge t key ls) ws m t (e .homePlace - a)
     ∙ (λ j. loaded (recharged v j) (rehomed v a (suc n) p q j))
     ∙ ap (λ (l : ℕ). loaded (payloads (wedge t e es)) (sites (hasHome (wedge t e es)) a l)) (sym (length-wedge t e es))
     ∙ sym (layRun-loaded a (wedge t e es))
@@ -140,17 +140,17 @@ fill-beside {run = run} {es = es} side a x g free r =
 pub enlarge :
     {d c m t : ℕ} {e : Entry} {run : List Word} {es : List Entry} (side : Side) (a : ℕ) (g : Word) →
     isVoid g ≡ true → d ≤ 4096 → Run d (begins side a) run es →
-    Goes d c e m t es → t ≤ length es → a ≤ e .home → e .home < a + suc (length es) →
+    Goes d c e m t es → t ≤ length es → a ≤ e .homePlace → e .homePlace < a + suc (length es) →
     map unlock
     (finish (fillAt (e .remainder) (beside side g run) (index side (length run))) (index side (length run)) t m
-    (e .home - a))
+    (e .homePlace - a))
     ≡ layRun a (wedge t e es)
 enlarge {m = m} {t = t} {e = e} {run = run} {es = es} side a g free low r v h p q =
     let i = index side (length run) in
     let key = occupiedWord (e .remainder) false false in
-    finish-unlock (fillAt (e .remainder) (beside side g run) i) i t m (e .home - a)
-    ∙ ap (λ (ws : List Word). finish ws i t m (e .home - a)) (fill-beside side a (e .remainder) g free r)
+    finish-unlock (fillAt (e .remainder) (beside side g run) i) i t m (e .homePlace - a)
+    ∙ ap (λ (ws : List Word). finish ws i t m (e .homePlace - a)) (fill-beside side a (e .remainder) g free r)
     ∙ ap
-    (λ (n : ℕ). finish (wedge (index side n) key (layRun (begins side a) es)) (index side n) t m (e .home - a))
+    (λ (n : ℕ). finish (wedge (index side n) key (layRun (begins side a) es)) (index side n) t m (e .homePlace - a))
     (sym (r .size))
     ∙ finish-laid side a v h (ap (λ (n : ℕ). hasHome es (stands side a n)) (r .size) ∙ not-home side a low r) p q

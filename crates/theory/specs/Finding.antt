@@ -12,7 +12,7 @@ use Rattle.rules.specs.Lists.{bitOf, all, any}
 use Rattle.rules.specs.Word.{Word, isVoid}
 use Rattle.rules.specs.Entry.{Entry}
 use Rattle.rules.specs.Shape.{remainders, places}
-use Rattle.rules.specs.Table.{at, occupied, leftGap, rightGap, cluster, soundRun, clusterEntries, guardsVoid, locked}
+use Rattle.rules.specs.Table.{at, occupiedPlaces, leftGap, rightGap, cluster, soundRun, clusterEntries, guardsVoid, locked}
 use Rattle.rules.specs.Lay.{holds}
 use Rattle.rules.specs.Answer.{says}
 use Rattle.rules.specs.Find.{around, soundAround, lockedAround, findIn}
@@ -28,7 +28,7 @@ use Rattle.theory.specs.Places.{run-left, run-right, run-cluster, run-cl
 use Rattle.theory.specs.SoundTable.{table-guards, nothing-sound}
 
 -- ---- who has an entry
-pub holds-right : {d c b : ℕ} {es : List Entry} (e : Entry) → Asc d c b es → c ≤ e .home → holds e es ≡ false
+pub holds-right : {d c b : ℕ} {es : List Entry} (e : Entry) → Asc d c b es → c ≤ e .homePlace → holds e es ≡ false
 holds-right {es = es} e up le = go (holds e es) refl
   where
     go : (b : Bool) → holds e es ≡ b → holds e es ≡ false
@@ -37,8 +37,8 @@ holds-right {es = es} e up le = go (holds e es) refl
 
 -- ---- the surroundings of a home
 pub record Surroundings (sh : Shape) (ws : List Word) (es : List Entry) (e : Entry) : Type 0 where
-  pub sound : soundAround sh ws (e .home) ≡ true
-  pub same : holds e (clusterEntries ws (e .home)) ≡ holds e es
+  pub sound : soundAround sh ws (e .homePlace) ≡ true
+  pub same : holds e (clusterEntries ws (e .homePlace)) ≡ holds e es
 
 pub origin : {d : ℕ} {ws : List Word} {es : List Entry} → Table d ws es → at ws 0 .occupied ≡ false
 origin (table {g = g} void right) = void-free g void
@@ -47,8 +47,8 @@ origin (table {g = g} void right) = void-free g void
 sound-parts :
     (sh : Shape) (ws : List Word) (p l r : ℕ) (run : List Word) →
     guardsVoid sh ws ≡ true →
-    leftGap (occupied ws) p ≡ l →
-    rightGap (occupied ws) p ≡ r →
+    leftGap (occupiedPlaces ws) p ≡ l →
+    rightGap (occupiedPlaces ws) p ≡ r →
     cluster ws p ≡ run →
     isVoid (at ws l) ≡ true → isVoid (at ws r) ≡ true → soundRun sh run ≡ true → soundAround sh ws p ≡ true
 unfolding soundAround
@@ -67,7 +67,7 @@ gap-surroundings :
     (sh : Shape) {ws : List Word} {es : List Entry} (e : Entry) →
     remainders sh ≤ 4096 →
     e .remainder < remainders sh →
-    guardsVoid sh ws ≡ true → at ws 0 .occupied ≡ false → AtGap (remainders sh) ws es (e .home) →
+    guardsVoid sh ws ≡ true → at ws 0 .occupied ≡ false → AtGap (remainders sh) ws es (e .homePlace) →
     Surroundings sh ws es e
 unfolding holds any
 gap-surroundings sh {ws} {es} e s low guards free t =
@@ -119,25 +119,25 @@ run-surroundings :
     (sh : Shape) {ws : List Word} {es : List Entry} (e : Entry) →
     remainders sh ≤ 4096 →
     e .remainder < remainders sh →
-    guardsVoid sh ws ≡ true → at ws 0 .occupied ≡ false → InRun (remainders sh) ws es (e .home) →
+    guardsVoid sh ws ≡ true → at ws 0 .occupied ≡ false → InRun (remainders sh) ws es (e .homePlace) →
     Surroundings sh ws es e
 run-surroundings sh {ws} {es} e s low guards free t =
     record {
       sound =
           subst
-          (λ (xs : List Word). soundAround sh xs (e .home) ≡ true)
+          (λ (xs : List Word). soundAround sh xs (e .homePlace) ≡ true)
           (sym (t .words))
           (sound-parts
           sh
           vs
-          (e .home)
+          (e .homePlace)
           (length (t .u))
           (suc (length (t .u)) + length (t .run))
           (t .run)
           (sym (ap (guardsVoid sh) (t .words)) ∙ guards)
-          (run-left (t .u) (t .g) (t .run) (t .h) (t .v) empty taken hollow start (e .home) (t .after) (t .before))
-          (run-right (t .u) (t .g) (t .run) (t .h) (t .v) empty taken hollow start (e .home) (t .after) (t .before))
-          (run-cluster (t .u) (t .g) (t .run) (t .h) (t .v) empty taken hollow start (e .home) (t .after) (t .before))
+          (run-left (t .u) (t .g) (t .run) (t .h) (t .v) empty taken hollow start (e .homePlace) (t .after) (t .before))
+          (run-right (t .u) (t .g) (t .run) (t .h) (t .v) empty taken hollow start (e .homePlace) (t .after) (t .before))
+          (run-cluster (t .u) (t .g) (t .run) (t .h) (t .v) empty taken hollow start (e .homePlace) (t .after) (t .before))
           (ap isVoid (at-seam (t .u) (t .g) (t .run ++ (t .h ∷ t .v))) ∙ t .void)
           (ap
           isVoid
@@ -145,7 +145,7 @@ run-surroundings sh {ws} {es} e s low guards free t =
           ∙ t .hollow)
           (run-is-sound sh s (t .inside)));
       same =
-          ap (λ (xs : List Word). holds e (clusterEntries xs (e .home))) (t .words)
+          ap (λ (xs : List Word). holds e (clusterEntries xs (e .homePlace))) (t .words)
           ∙ ap (holds e)
           (run-cluster-entries
           (t .u)
@@ -157,7 +157,7 @@ run-surroundings sh {ws} {es} e s low guards free t =
           taken
           hollow
           start
-          (e .home)
+          (e .homePlace)
           (t .after)
           (t .before)
           ∙ run-entries s (t .inside))
@@ -191,12 +191,12 @@ pub surroundings :
     (sh : Shape) {ws : List Word} {es : List Entry} (e : Entry) →
     remainders sh ≤ 4096 →
     length ws ≡ places sh →
-    HomePlace sh (e .home) →
+    HomePlace sh (e .homePlace) →
     e .remainder < remainders sh → Table (remainders sh) ws es → Surroundings sh ws es e
 unfolding places
-surroundings sh {ws} {es} e s size k low t = go (locate (e .home) t (omega arith))
+surroundings sh {ws} {es} e s size k low t = go (locate (e .homePlace) t (omega arith))
   where
-    go : Located (remainders sh) ws es (e .home) → Surroundings sh ws es e
+    go : Located (remainders sh) ws es (e .homePlace) → Surroundings sh ws es e
     go (at-gap x) = gap-surroundings sh e s low (table-guards sh size t) (origin t) x
     go (in-run x) = run-surroundings sh e s low (table-guards sh size t) (origin t) x
 
@@ -225,17 +225,17 @@ any-drop f (suc n) (w ∷ ws) h = any-drop f n ws (go (f w) h)
 
 pub around-free : (ws : List Word) (p : ℕ) → locked ws ≡ false → lockedAround ws p ≡ false
 unfolding lockedAround around locked
-around-free ws p free = any-drop _ (leftGap (occupied ws) p) _ (any-take _ (suc (rightGap (occupied ws) p)) ws free)
+around-free ws p free = any-drop _ (leftGap (occupiedPlaces ws) p) _ (any-take _ (suc (rightGap (occupiedPlaces ws) p)) ws free)
 
 -- find on an unlocked table says present exactly for the entries that it shows
 pub find-table :
     (sh : Shape) {ws : List Word} {es : List Entry} (e : Entry) →
     remainders sh ≤ 4096 →
     length ws ≡ places sh →
-    HomePlace sh (e .home) →
+    HomePlace sh (e .homePlace) →
     e .remainder < remainders sh →
     Table (remainders sh) ws es → locked ws ≡ false → findIn sh ws e ≡ says (bitOf (holds e es))
 unfolding findIn
 find-table sh {ws} e s size k low t free =
     let look = surroundings sh e s size k low t in
-    rw (look .sound, around-free ws (e .home) free, look .same)
+    rw (look .sound, around-free ws (e .homePlace) free, look .same)

@@ -253,7 +253,7 @@ room-left sh os h = refl
 
 -- the view of the rule: at home, at its first side, at its second, nowhere
 pub data Chosen (s : Side) (sh : Shape) (os : List Bool) (h : ℕ) : Room → Type 0 where
-  home : Free os h → Chosen s sh os h (place h)
+  homeAt : Free os h → Chosen s sh os h (place h)
   first : Taken os h → gap s os h ≢ guard sh s → Chosen s sh os h (place (gap s os h))
   second :
       Taken os h → gap s os h ≡ guard sh s → gap (other s) os h ≢ guard sh (other s) →
@@ -276,7 +276,7 @@ chosen s sh os h =
         (a b c : Bool) → getD os h false ≡ a → eqb (gap s os h) (guard sh s) ≡ b →
         eqb (gap (other s) os h) (guard sh (other s)) ≡ c →
         Chosen s sh os h (cond a (cond b (cond c full (place (gap (other s) os h))) (place (gap s os h))) (place h))
-    go false b c x y z = home x
+    go false b c x y z = homeAt x
     go true false c x y z = first x (eqb-false _ _ y)
     go true true false x y z = second x (eqb-true _ _ y) (eqb-false _ _ z)
     go true true true x y z = none x (eqb-true _ _ y) (eqb-true _ _ z)
@@ -285,7 +285,7 @@ chosen s sh os h =
 pub chosen-only :
     {s : Side} {sh : Shape} {os : List Bool} {h : ℕ} {r : Room} → Chosen s sh os h r → roomFrom s sh os h ≡ r
 unfolding roomFrom
-chosen-only (home f) = rw f
+chosen-only (homeAt f) = rw f
 chosen-only {s} {sh} {os} {h} (first t n) = rw (t, ne-eqb (gap s os h) (guard sh s) n)
 chosen-only {s} {sh} {os} {h} (second t e n) =
     rw (t, eq-eqb (gap s os h) (guard sh s) e, ne-eqb (gap (other s) os h) (guard sh (other s)) n)
@@ -323,7 +323,7 @@ gap-nearest s {h = h} g k n =
 pub chosen-nearest :
     {s : Side} {sh : Shape} {os : List Bool} {h p : ℕ} → Guarded sh os → HomePlace sh h →
     Chosen s sh os h (place p) → Nearest sh os h p
-chosen-nearest g k (home f) =
+chosen-nearest g k (homeAt f) =
     record { inside = k; free = f; below = λ q x y. absurd (omega arith); above = λ q x y. absurd (omega arith) }
 chosen-nearest {s} g k (first t n) = gap-nearest s g k n
 chosen-nearest {s} g k (second t e n) = gap-nearest (other s) g k n

@@ -25,46 +25,46 @@ use Rattle.theory.specs.Every.{All, all-map}
 -- an entry precedes another exactly if its code is below, as long as remainders are below 4096
 pub precedes-below : (e f : Entry) → f .remainder < 4096 → code e < code f → precedes e f ≡ true
 unfolding precedes sameHome
-precedes-below e f y h = go (ltb (e .home) (f .home)) refl
+precedes-below e f y h = go (ltb (e .homePlace) (f .homePlace)) refl
   where
-    go : (b : Bool) → ltb (e .home) (f .home) ≡ b → precedes e f ≡ true
+    go : (b : Bool) → ltb (e .homePlace) (f .homePlace) ≡ b → precedes e f ≡ true
     go true p = rw p
     go false p =
-        let k = ltb-false (e .home) (f .home) p in
-        rw (p, eq-eqb (e .home) (f .home) (omega arith), lt-ltb (e .remainder) (f .remainder) (omega arith))
+        let k = ltb-false (e .homePlace) (f .homePlace) p in
+        rw (p, eq-eqb (e .homePlace) (f .homePlace) (omega arith), lt-ltb (e .remainder) (f .remainder) (omega arith))
 
 pub precedes-above : (e f : Entry) → e .remainder < 4096 → code f ≤ code e → precedes e f ≡ false
 unfolding precedes sameHome
-precedes-above e f x h = go (eqb (e .home) (f .home)) refl
+precedes-above e f x h = go (eqb (e .homePlace) (f .homePlace)) refl
   where
-    low : ltb (e .home) (f .home) ≡ false
-    low = le-ltb (e .home) (f .home) (omega arith)
+    low : ltb (e .homePlace) (f .homePlace) ≡ false
+    low = le-ltb (e .homePlace) (f .homePlace) (omega arith)
 
-    go : (b : Bool) → eqb (e .home) (f .home) ≡ b → precedes e f ≡ false
+    go : (b : Bool) → eqb (e .homePlace) (f .homePlace) ≡ b → precedes e f ≡ false
     go true p = rw (low, p, le-ltb (e .remainder) (f .remainder) (omega (arith, eqb-true)))
     go false p = rw (low, p)
 
 -- `sameEntry` is equality
 pub same-refl : (e : Entry) → sameEntry e e ≡ true
 unfolding sameEntry sameHome
-same-refl e = rw (eq-eqb (e .home) (e .home) refl, eq-eqb (e .remainder) (e .remainder) refl)
+same-refl e = rw (eq-eqb (e .homePlace) (e .homePlace) refl, eq-eqb (e .remainder) (e .remainder) refl)
 
 pub same-eq : (e f : Entry) → sameEntry e f ≡ true → e ≡ f
 unfolding sameEntry sameHome
-same-eq e f s = go (eqb (e .home) (f .home)) (eqb (e .remainder) (f .remainder)) refl refl s
+same-eq e f s = go (eqb (e .homePlace) (f .homePlace)) (eqb (e .remainder) (f .remainder)) refl refl s
   where
     go :
-        (a b : Bool) → eqb (e .home) (f .home) ≡ a → eqb (e .remainder) (f .remainder) ≡ b → (a && b) ≡ true → e ≡ f
+        (a b : Bool) → eqb (e .homePlace) (f .homePlace) ≡ a → eqb (e .remainder) (f .remainder) ≡ b → (a && b) ≡ true → e ≡ f
     go true true p q t =
-        λ i. record { home = eqb-true (e .home) (f .home) p i; remainder = eqb-true (e .remainder) (f .remainder) q i }
+        λ i. record { homePlace = eqb-true (e .homePlace) (f .homePlace) p i; remainder = eqb-true (e .remainder) (f .remainder) q i }
     go true false p q t = absurd (false≢true t)
     go false b p q t = absurd (false≢true t)
 
 pub code-eq : (e f : Entry) → e .remainder < 4096 → f .remainder < 4096 → code e ≡ code f → e ≡ f
-code-eq e f x y h = λ i. record { home = home i; remainder = remainder i }
+code-eq e f x y h = λ i. record { homePlace = homeAt i; remainder = remainder i }
   where
-    home : e .home ≡ f .home
-    home = omega arith
+    homeAt : e .homePlace ≡ f .homePlace
+    homeAt = omega arith
 
     remainder : e .remainder ≡ f .remainder
     remainder = omega arith
@@ -103,7 +103,7 @@ compared e f x y = go (ltb (code e) (code f)) (ltb (code f) (code e)) refl refl
 pub record Within (d c b : ℕ) (e : Entry) : Type 0 where
   pub above : b ≤ code e
   pub low : e .remainder < d
-  pub inside : e .home < c
+  pub inside : e .homePlace < c
 
 pub asc-all : {d c b : ℕ} {es : List Entry} → Asc d c b es → All (Within d c b) es
 asc-all none = every.none

@@ -30,8 +30,8 @@ pub record Absent (side : Side) (d a : ℕ) (run : List Word) (g : Word) (e : En
   pub low : d ≤ 4096
   pub laid : Run d (begins side a) run es
   pub remainder : e .remainder < d
-  pub after : begins side a ≤ e .home
-  pub before : e .home < begins side a + length run
+  pub after : begins side a ≤ e .homePlace
+  pub before : e .homePlace < begins side a + length run
   pub new : holds e es ≡ false
 
 -- the table with entry e filled in at the hand and brought to its goal: one region is new, and is the run with e added
@@ -44,7 +44,7 @@ pub record Added (side : Side) (d : ℕ) (pre run post : List Word) (g : Word) (
       (stands side (length pre) (length run))
       (length pre + smaller e es)
       (markOf e es)
-      (e .home)
+      (e .homePlace)
       ≡ pre ++ (region ++ post)
   pub enlarged : Run d (length pre) region (insert e es)
   pub locked : locks region ≡ locks (beside side g run)
@@ -61,7 +61,7 @@ insertion side {d} pre run post g e es h =
     let t = smaller e es in
     let m = markOf e es in
     let x = e .remainder in
-    let q = e .home - a in
+    let q = e .homePlace - a in
     let mid = beside side g run in
     let ws = pre ++ (mid ++ post) in
     let filled = fillAt x mid i in
@@ -77,12 +77,12 @@ insertion side {d} pre run post g e es h =
     let filled-long : length filled ≡ suc n = length-locks filled mid (fillAt-locks x mid i) ∙ long in
     let done-locks : locks done ≡ locks mid = finish-locks filled i t m q ∙ fillAt-locks x mid i in
     let done-long : length done ≡ suc n = length-locks done mid done-locks ∙ long in
-    let home : e .home ≡ a + q = omega (arith, h .after) in
+    let homeAt : e .homePlace ≡ a + q = omega (arith, h .after) in
     let near : q < suc n = omega (arith, h .before) in
     record {
       region = done;
       words =
-          (λ j. finish (fillAt x ws (stands-index side a n j)) (stands-index side a n j) (a + t) m (home j))
+          (λ j. finish (fillAt x ws (stands-index side a n j)) (stands-index side a n j) (a + t) m (homeAt j))
           ∙ ap (λ (us : List Word). finish us (a + i) (a + t) m (a + q)) (fillAt-within x pre mid post i (omega arith))
           ∙ finish-within pre filled post i t m q (omega arith) (omega arith) (omega arith) (closes-above v);
       enlarged =

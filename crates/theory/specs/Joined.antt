@@ -27,31 +27,31 @@ pub has-home-append : (xs ys : List Entry) (x : ℕ) → hasHome (xs ++ ys) x �
 unfolding hasHome any
 has-home-append [] ys x = refl
 has-home-append (e ∷ xs) ys x =
-    ap (λ (b : Bool). eqb (e .home) x || b) (has-home-append xs ys x)
-    ∙ sym (or-assoc (eqb (e .home) x) (hasHome xs x) (hasHome ys x))
+    ap (λ (b : Bool). eqb (e .homePlace) x || b) (has-home-append xs ys x)
+    ∙ sym (or-assoc (eqb (e .homePlace) x) (hasHome xs x) (hasHome ys x))
 
 -- no home lies at or right of the bound of ascending entries, and none left of where they begin
 pub has-home-right : {d c b : ℕ} {es : List Entry} (x : ℕ) → Asc d c b es → c ≤ x → hasHome es x ≡ false
 unfolding hasHome any
 has-home-right x none le = refl
 has-home-right x (next {e = e} p q r up) le =
-    ap₂ _||_ (ne-eqb (e .home) x (λ (same : e .home ≡ x). omega arith)) (has-home-right x up le)
+    ap₂ _||_ (ne-eqb (e .homePlace) x (λ (same : e .homePlace ≡ x). omega arith)) (has-home-right x up le)
 
 pub has-home-left :
     {d c b : ℕ} {es : List Entry} (x : ℕ) → d ≤ 4096 → Asc d c b es → suc x * 4096 ≤ b → hasHome es x ≡ false
 unfolding hasHome any
 has-home-left x s none le = refl
 has-home-left x s (next {e = e} p q r up) le =
-    ap₂ _||_ (ne-eqb (e .home) x (λ (same : e .home ≡ x). omega arith)) (has-home-left x s up (omega arith))
+    ap₂ _||_ (ne-eqb (e .homePlace) x (λ (same : e .homePlace ≡ x). omega arith)) (has-home-left x s up (omega arith))
 
 -- ---- laying entries one after the other
 -- an entry with a home below c ends its group before entries from home c on
 ends-before :
-    {d c c′ : ℕ} (e : Entry) {ys : List Entry} → d ≤ 4096 → e .home < c → Asc d c′ (c * 4096) ys → endsGroup e ys ≡ true
+    {d c c′ : ℕ} (e : Entry) {ys : List Entry} → d ≤ 4096 → e .homePlace < c → Asc d c′ (c * 4096) ys → endsGroup e ys ≡ true
 unfolding endsGroup sameHome
 ends-before e s lt none = refl
 ends-before e s lt (next {e = f} p q r up) =
-    ap not (ne-eqb (e .home) (f .home) (λ (same : e .home ≡ f .home). omega arith))
+    ap not (ne-eqb (e .homePlace) (f .homePlace) (λ (same : e .homePlace ≡ f .homePlace). omega arith))
 
 pub lay-append :
     {d c c′ b : ℕ} (whole : List Entry) (p q : ℕ) (os : List Bool) {xs ys : List Entry} →

@@ -70,21 +70,21 @@ join-order :
     (sh : Shape) (e f : Entry) →
     remainders sh ≤ 4096 → InShape sh e → InShape sh f → code e < code f → join sh e < join sh f
 unfolding join homeOfPlace
-join-order sh e f s i j lt = go (eqb (e .home) (f .home)) refl
+join-order sh e f s i j lt = go (eqb (e .homePlace) (f .homePlace)) refl
   where
     go :
-        (b : Bool) → eqb (e .home) (f .home) ≡ b →
-        (e .home - 1) * remainders sh + e .remainder < (f .home - 1) * remainders sh + f .remainder
+        (b : Bool) → eqb (e .homePlace) (f .homePlace) ≡ b →
+        (e .homePlace - 1) * remainders sh + e .remainder < (f .homePlace - 1) * remainders sh + f .remainder
     go true k =
-        let h = eqb-true (e .home) (f .home) k in
-        let same : e .home - 1 ≡ f .home - 1 = omega arith in
+        let h = eqb-true (e .homePlace) (f .homePlace) k in
+        let same : e .homePlace - 1 ≡ f .homePlace - 1 = omega arith in
         rw same (omega arith)
     go false k =
-        let apart = eqb-false (e .home) (f .home) k in
-        let lower : suc (e .home - 1) ≤ f .home - 1 = omega (arith, i .home-low, i .remainder-low, j .remainder-low) in
-        let scaled : suc (e .home - 1) * remainders sh ≤ (f .home - 1) * remainders sh =
+        let apart = eqb-false (e .homePlace) (f .homePlace) k in
+        let lower : suc (e .homePlace - 1) ≤ f .homePlace - 1 = omega (arith, i .home-low, i .remainder-low, j .remainder-low) in
+        let scaled : suc (e .homePlace - 1) * remainders sh ≤ (f .homePlace - 1) * remainders sh =
         mul-le-mul-right (remainders sh) lower in
-        omega (arith, suc-mul (e .home - 1) (remainders sh), i .remainder-low)
+        omega (arith, suc-mul (e .homePlace - 1) (remainders sh), i .remainder-low)
 
 pub keys-ascend :
     (sh : Shape) {b : ℕ} {es : List Entry} (k : ℕ) →

@@ -64,7 +64,7 @@ recharge mark goal ls =
     (cond (eqb mark 1) (setChange (setChange ls goal true) (goal - 1) false) ls)
 
 abbrev pub rehome : ℕ → ℕ → List Word → List Word
-rehome mark home ws = cond (eqb mark 2) (setVirgin ws home) ws
+rehome mark homeAt ws = cond (eqb mark 2) (setVirgin ws homeAt) ws
 
 change-loaded : (ls ws : List Word) (p : ℕ) (b : Bool) → setChange (loaded ls ws) p b ≡ loaded (setChange ls p b) ws
 unfolding setChange
@@ -82,18 +82,18 @@ virgin-loaded (l ∷ ls) (w ∷ ws) zero = refl
 virgin-loaded (l ∷ ls) (w ∷ ws) (suc p) = ap (λ (r : List Word). withPayload l w ∷ r) (virgin-loaded ls ws p)
 
 pub marked-loaded :
-    (ls ws : List Word) (mark goal home : ℕ) →
-    marked (loaded ls ws) mark goal home ≡ loaded (recharge mark goal ls) (rehome mark home ws)
+    (ls ws : List Word) (mark goal homeAt : ℕ) →
+    marked (loaded ls ws) mark goal homeAt ≡ loaded (recharge mark goal ls) (rehome mark homeAt ws)
 unfolding marked
-marked-loaded ls ws mark goal home = go (eqb mark 2) (eqb mark 1)
+marked-loaded ls ws mark goal homeAt = go (eqb mark 2) (eqb mark 1)
   where
     go :
         (two one : Bool) →
-        cond two (setVirgin (setChange (loaded ls ws) goal true) home)
+        cond two (setVirgin (setChange (loaded ls ws) goal true) homeAt)
         (cond one (setChange (setChange (loaded ls ws) goal true) (goal - 1) false) (loaded ls ws))
         ≡ loaded
         (cond two (setChange ls goal true) (cond one (setChange (setChange ls goal true) (goal - 1) false) ls))
-        (cond two (setVirgin ws home) ws)
+        (cond two (setVirgin ws homeAt) ws)
     go true one = rw (change-loaded, virgin-loaded)
     go false true = rw (change-loaded, change-loaded)
     go false false = refl
@@ -102,7 +102,7 @@ marked-loaded ls ws mark goal home = go (eqb mark 2) (eqb mark 1)
 
 same-sym : (e f : Entry) → sameHome e f ≡ true → sameHome f e ≡ true
 unfolding sameHome
-same-sym e f h = eq-eqb (f .home) (e .home) (sym (eqb-true (e .home) (f .home) h))
+same-sym e f h = eq-eqb (f .homePlace) (e .homePlace) (sym (eqb-true (e .homePlace) (f .homePlace) h))
 
 ends-alone : (e : Entry) (es : List Entry) → any (sameHome e) es ≡ false → endsGroup e es ≡ true
 unfolding endsGroup any
@@ -158,63 +158,63 @@ sites-same v u p (suc n) h =
     λ i. occupiedWord 0 (h p (le-refl p) i) false ∷ sites-same v u (suc p) n (λ q k. h q (omega arith)) i
 
 sites-virgin :
-    (v : ℕ → Bool) (p n i home : ℕ) → p + i ≡ home → i < n →
-    setVirgin (sites v p n) i ≡ sites (λ q. eqb home q || v q) p n
+    (v : ℕ → Bool) (p n i homeAt : ℕ) → p + i ≡ homeAt → i < n →
+    setVirgin (sites v p n) i ≡ sites (λ q. eqb homeAt q || v q) p n
 unfolding setVirgin
-sites-virgin v p zero i home e h = absurd (not-suc-le-zero h)
-sites-virgin v p (suc n) zero home e h =
+sites-virgin v p zero i homeAt e h = absurd (not-suc-le-zero h)
+sites-virgin v p (suc n) zero homeAt e h =
     rw
-    (eq-eqb home p (omega arith))
+    (eq-eqb homeAt p (omega arith))
     (ap
     (λ (ws : List Word). occupiedWord 0 true false ∷ ws)
-    (sites-same v (λ q. eqb home q || v q) (suc p) n (λ q k. rw (ne-eqb home q (λ z. omega arith)))))
-sites-virgin v p (suc n) (suc i) home e h =
+    (sites-same v (λ q. eqb homeAt q || v q) (suc p) n (λ q k. rw (ne-eqb homeAt q (λ z. omega arith)))))
+sites-virgin v p (suc n) (suc i) homeAt e h =
     rw
-    (ne-eqb home p (λ z. omega arith))
+    (ne-eqb homeAt p (λ z. omega arith))
     (ap
     (λ (ws : List Word). occupiedWord 0 (v p) false ∷ ws)
-    (sites-virgin v (suc p) n i home (omega arith) (le-of-suc-le-suc h)))
+    (sites-virgin v (suc p) n i homeAt (omega arith) (le-of-suc-le-suc h)))
 
 home-wedge :
-    (t : ℕ) (e : Entry) (es : List Entry) (q : ℕ) → hasHome (wedge t e es) q ≡ (eqb (e .home) q || hasHome es q)
+    (t : ℕ) (e : Entry) (es : List Entry) (q : ℕ) → hasHome (wedge t e es) q ≡ (eqb (e .homePlace) q || hasHome es q)
 unfolding hasHome any
 home-wedge zero e es q = refl
 home-wedge (suc t) e [] q = refl
 home-wedge (suc t) e (f ∷ es) q =
-    ap (λ (b : Bool). eqb (f .home) q || b) (home-wedge t e es q)
-    ∙ or-swap (eqb (f .home) q) (eqb (e .home) q) (hasHome es q)
+    ap (λ (b : Bool). eqb (f .homePlace) q || b) (home-wedge t e es q)
+    ∙ or-swap (eqb (f .homePlace) q) (eqb (e .homePlace) q) (hasHome es q)
 
 home-kept :
     (t : ℕ) (e : Entry) (es : List Entry) (q : ℕ) →
-    hasHome es (e .home) ≡ true → hasHome es q ≡ hasHome (wedge t e es) q
-home-kept t e es q h = rw (home-wedge t e es q) (go (eqb (e .home) q) refl)
+    hasHome es (e .homePlace) ≡ true → hasHome es q ≡ hasHome (wedge t e es) q
+home-kept t e es q h = rw (home-wedge t e es q) (go (eqb (e .homePlace) q) refl)
   where
-    go : (b : Bool) → eqb (e .home) q ≡ b → hasHome es q ≡ (b || hasHome es q)
-    go true p = ap (hasHome es) (sym (eqb-true (e .home) q p)) ∙ h
+    go : (b : Bool) → eqb (e .homePlace) q ≡ b → hasHome es q ≡ (b || hasHome es q)
+    go true p = ap (hasHome es) (sym (eqb-true (e .homePlace) q p)) ∙ h
     go false p = refl
 
 -- an entry that opens no group finds its home there
 home-shared :
-    {d c m t : ℕ} {e : Entry} {es : List Entry} → Goes d c e m t es → (m ≡ 2 → ⊥) → hasHome es (e .home) ≡ true
+    {d c m t : ℕ} {e : Entry} {es : List Entry} → Goes d c e m t es → (m ≡ 2 → ⊥) → hasHome es (e .homePlace) ≡ true
 unfolding hasHome any sameHome
 home-shared (opens a n) h = absurd (h refl)
 home-shared {e = e} (joins {f = f} p) h = rw (same-sym e f p)
 home-shared {e = e} (closes {f = f} p n) h = rw (same-sym e f p)
-home-shared {e = e} (passes {f = f} p k v) h = rw (home-shared v h) (or-true (eqb (f .home) (e .home)))
+home-shared {e = e} (passes {f = f} p k v) h = rw (home-shared v h) (or-true (eqb (f .homePlace) (e .homePlace)))
 
 pub rehomed :
     {d c m t : ℕ} {e : Entry} {es : List Entry} → Goes d c e m t es →
-    (a n : ℕ) → a ≤ e .home → e .home < a + n →
-    rehome m (e .home - a) (sites (hasHome es) a n) ≡ sites (hasHome (wedge t e es)) a n
+    (a n : ℕ) → a ≤ e .homePlace → e .homePlace < a + n →
+    rehome m (e .homePlace - a) (sites (hasHome es) a n) ≡ sites (hasHome (wedge t e es)) a n
 rehomed {m = m} {t = t} {e = e} {es = es} v a n h k = go (eqb m 2) refl
   where
     go :
         (b : Bool) → eqb m 2 ≡ b →
-        cond b (setVirgin (sites (hasHome es) a n) (e .home - a)) (sites (hasHome es) a n)
+        cond b (setVirgin (sites (hasHome es) a n) (e .homePlace - a)) (sites (hasHome es) a n)
         ≡ sites (hasHome (wedge t e es)) a n
     go true p =
-        sites-virgin (hasHome es) a n (e .home - a) (e .home) (omega arith) (omega arith)
-        ∙ sites-same (λ q. eqb (e .home) q || hasHome es q) (hasHome (wedge t e es)) a n
+        sites-virgin (hasHome es) a n (e .homePlace - a) (e .homePlace) (omega arith) (omega arith)
+        ∙ sites-same (λ q. eqb (e .homePlace) q || hasHome es q) (hasHome (wedge t e es)) a n
         (λ q z. sym (home-wedge t e es q))
     go false p =
         sites-same (hasHome es) (hasHome (wedge t e es)) a n

@@ -11,7 +11,7 @@ use Rattle.rules.specs.Lists.{bitOf, count, all}
 use Rattle.rules.specs.Word.{Word, zeroWord, isVoid}
 use Rattle.rules.specs.Entry.{Entry, join}
 use Rattle.rules.specs.Shape.{remainders, rightGuard}
-use Rattle.rules.specs.Table.{at, occupied, leftGap, rightGap, between, cluster, endsInChange, rising, soundRun}
+use Rattle.rules.specs.Table.{at, occupiedPlaces, leftGap, rightGap, between, cluster, endsInChange, rising, soundRun}
 use Rattle.rules.specs.Table.{virginPlaces, front, due, deal, entriesBetween, clusterEntries, entryAt, entriesFrom}
 use Rattle.rules.specs.Table.{entries}
 use Rattle.rules.specs.Table.{list, soundAt, soundFrom, sound}
@@ -64,12 +64,12 @@ unfolding deal
 deal-unlock hs [] = refl
 deal-unlock hs (w ∷ ws) =
     ap
-    (λ (es : List Entry). record { home = front hs; remainder = w .remainder } ∷ es)
+    (λ (es : List Entry). record { homePlace = front hs; remainder = w .remainder } ∷ es)
     (deal-unlock (due (w .change) hs) ws)
 
 -- ---- whole tables
-pub occupied-unlock : (ws : List Word) → occupied (map unlock ws) ≡ occupied ws
-unfolding occupied
+pub occupied-unlock : (ws : List Word) → occupiedPlaces (map unlock ws) ≡ occupiedPlaces ws
+unfolding occupiedPlaces
 occupied-unlock [] = refl
 occupied-unlock (w ∷ ws) = ap (λ (os : List Bool). w .occupied ∷ os) (occupied-unlock ws)
 
@@ -93,7 +93,7 @@ cluster-unlock : (ws : List Word) (p : ℕ) → cluster (map unlock ws) p ≡ ma
 unfolding cluster
 cluster-unlock ws p =
     ap (λ (os : List Bool). between (map unlock ws) (leftGap os p) (rightGap os p)) (occupied-unlock ws)
-    ∙ between-unlock ws (leftGap (occupied ws) p) (rightGap (occupied ws) p)
+    ∙ between-unlock ws (leftGap (occupiedPlaces ws) p) (rightGap (occupiedPlaces ws) p)
 
 void-aside : (w : Word) → isVoid (unlock w) ≡ isVoid w
 unfolding isVoid
@@ -133,18 +133,18 @@ entry-unlock ws p =
     getD
     (entriesBetween (map unlock ws) (leftGap os p) (rightGap os p))
     (p - suc (leftGap os p))
-    (record { home = 0; remainder = 0 }))
+    (record { homePlace = 0; remainder = 0 }))
     (occupied-unlock ws)
     ∙ ap
-    (λ (es : List Entry). getD es (p - suc (leftGap (occupied ws) p)) (record { home = 0; remainder = 0 }))
+    (λ (es : List Entry). getD es (p - suc (leftGap (occupiedPlaces ws) p)) (record { homePlace = 0; remainder = 0 }))
     (ap
-    (λ (vs : List Word). deal (virginPlaces (suc (leftGap (occupied ws) p)) vs) vs)
-    (between-unlock ws (leftGap (occupied ws) p) (rightGap (occupied ws) p))
-    ∙ ap (λ (hs : List ℕ). deal hs (map unlock run)) (virgin-unlock (suc (leftGap (occupied ws) p)) run)
-    ∙ deal-unlock (virginPlaces (suc (leftGap (occupied ws) p)) run) run)
+    (λ (vs : List Word). deal (virginPlaces (suc (leftGap (occupiedPlaces ws) p)) vs) vs)
+    (between-unlock ws (leftGap (occupiedPlaces ws) p) (rightGap (occupiedPlaces ws) p))
+    ∙ ap (λ (hs : List ℕ). deal hs (map unlock run)) (virgin-unlock (suc (leftGap (occupiedPlaces ws) p)) run)
+    ∙ deal-unlock (virginPlaces (suc (leftGap (occupiedPlaces ws) p)) run) run)
   where
     run : List Word
-    run = between ws (leftGap (occupied ws) p) (rightGap (occupied ws) p)
+    run = between ws (leftGap (occupiedPlaces ws) p) (rightGap (occupiedPlaces ws) p)
 
 entries-from-unlock :
     (ws : List Word) (p : ℕ) (rest : List Word) →

@@ -30,19 +30,19 @@ pub data Goes (d c : ℕ) (e : Entry) : ℕ → ℕ → List Entry → Type 0 wh
   -- above one that ends its group as before
   passes :
       {m t : ℕ} {f : Entry} {es : List Entry} →
-      endsGroup f (wedge t e es) ≡ endsGroup f es → (m ≡ 2 → f .home < e .home) → Goes d c e m t es →
+      endsGroup f (wedge t e es) ≡ endsGroup f es → (m ≡ 2 → f .homePlace < e .homePlace) → Goes d c e m t es →
       Goes d c e m (suc t) (f ∷ es)
 
 -- ---- the read step's values are in the view
 
 -- homes that are all above e's
 other-homes :
-    {d c b : ℕ} {es : List Entry} (e : Entry) → Asc d c b es → suc (e .home) * 4096 ≤ b → d ≤ 4096 →
+    {d c b : ℕ} {es : List Entry} (e : Entry) → Asc d c b es → suc (e .homePlace) * 4096 ≤ b → d ≤ 4096 →
     any (sameHome e) es ≡ false
 unfolding any sameHome
 other-homes e none h low = refl
 other-homes e (next {e = f} p q r s) h low =
-    rw (ne-eqb (e .home) (f .home) (λ k. omega arith), other-homes e s (omega arith) low)
+    rw (ne-eqb (e .homePlace) (f .homePlace) (λ k. omega arith), other-homes e s (omega arith) low)
 
 -- the two tests of `markOf`
 abbrev shares : Entry → List Entry → Bool
@@ -79,25 +79,25 @@ mark-kept {m} e f es new below h = rw below (go (sameHome e f) (shares e es) new
 
 -- a home before e's has none of its group behind e
 ends-before :
-    {d c : ℕ} {es : List Entry} (e f : Entry) → d ≤ 4096 → f .home < e .home → Asc d c (suc (code e)) es →
+    {d c : ℕ} {es : List Entry} (e f : Entry) → d ≤ 4096 → f .homePlace < e .homePlace → Asc d c (suc (code e)) es →
     endsGroup f (e ∷ es) ≡ endsGroup f es
 unfolding endsGroup sameHome
-ends-before e f low h none = rw (ne-eqb (f .home) (e .home) (λ k. omega arith))
+ends-before e f low h none = rw (ne-eqb (f .homePlace) (e .homePlace) (λ k. omega arith))
 ends-before e f low h (next {e = g} p q r s) =
-    rw (ne-eqb (f .home) (e .home) (λ k. omega arith), ne-eqb (f .home) (g .home) (λ k. omega arith))
+    rw (ne-eqb (f .homePlace) (e .homePlace) (λ k. omega arith), ne-eqb (f .homePlace) (g .homePlace) (λ k. omega arith))
 
 module _
     {d c : ℕ} (low : d ≤ 4096) (e f : Entry) (x : e .remainder < d) (y : f .remainder < d) (l : code f < code e) where
   -- an entry below e that ends its group as before
   goes-past :
       {m t : ℕ} {es : List Entry} →
-      endsGroup f (wedge t e es) ≡ endsGroup f es → (m ≡ 2 → f .home < e .home) → Goes d c e m t es →
+      endsGroup f (wedge t e es) ≡ endsGroup f es → (m ≡ 2 → f .homePlace < e .homePlace) → Goes d c e m t es →
       markOf e es ≡ m →
       Goes d c e (markOf e (f ∷ es)) (suc t) (f ∷ es)
   unfolding sameHome
   goes-past {t = t} {es = es} p k v h =
       let below : precedes f e ≡ true = precedes-below f e (omega arith) l in
-      let kept = mark-kept e f es (λ two. ne-eqb (e .home) (f .home) (λ q. omega (arith, k two))) below h in
+      let kept = mark-kept e f es (λ two. ne-eqb (e .homePlace) (f .homePlace) (λ q. omega (arith, k two))) below h in
       subst (λ (m : ℕ). Goes d c e m (suc t) (f ∷ es)) (sym kept) (passes p k v)
 
   -- any entry below e
@@ -110,11 +110,11 @@ module _
       go : (b : Bool) → sameHome e f ≡ b → Goes d c e (markOf e (f ∷ es)) 1 (f ∷ es)
       go true p = rw (p, precedes-below f e (omega arith) l, none-tops e es n) (closes p n)
       go false p =
-          let k : f .home < e .home = omega (arith, eqb-false (e .home) (f .home) p) in
+          let k : f .homePlace < e .homePlace = omega (arith, eqb-false (e .homePlace) (f .homePlace) p) in
           goes-past (ends-before e f low k a) (λ two. k) (opens a n) h
   goes-on s (joins {f = g} {es = es} p) h =
       goes-past
-      (ap (λ (q : ℕ). not (eqb (f .home) q)) (eqb-true (e .home) (g .home) p))
+      (ap (λ (q : ℕ). not (eqb (f .homePlace) q)) (eqb-true (e .homePlace) (g .homePlace) p))
       (λ two. omega arith)
       (joins p)
       h
@@ -134,7 +134,7 @@ goes-between {d} {c} e [] (g ∷ es) low x (next p q r s) ls (every.both l ms) =
     go : (b : Bool) → sameHome e g ≡ b → Goes d c e (markOf e (g ∷ es)) 0 (g ∷ es)
     go true h = rw (h, precedes-above g e (omega arith) (omega arith)) (joins h)
     go false h =
-        let n = other-homes e s (omega (arith, eqb-false (e .home) (g .home) h)) low in
+        let n = other-homes e s (omega (arith, eqb-false (e .homePlace) (g .homePlace) h)) low in
         rw (h, n) (opens (next l q r s) (rw (h, n)))
 goes-between e (f ∷ fs) back low x (next p q r s) (every.both l ls) ms =
     goes-on low e f x q l s (goes-between e fs back low x s ls ms) refl

@@ -10,13 +10,13 @@ use lib.ListN.{set}
 use lib.Dec.{ltb, eqb}
 use borrow.Author.Tests.{ltb-true, ltb-false, eqb-true}
 use Rattle.rules.specs.declared.Task.{Task}
-use Rattle.rules.specs.Word.{Word, withRemainder}
+use Rattle.rules.specs.Word.{Word, filledWith}
 use Rattle.rules.specs.Table.{at}
 use Rattle.rules.specs.Phase.{neighbour, exchange, setChange, setVirgin, marked}
 
 -- what phase 8 writes
 unfoldable pub fillAt : ℕ → List Word → ℕ → List Word
-fillAt x ws p = set ws p (withRemainder x (at ws p))
+fillAt x ws p = set ws p (filledWith x (at ws p))
 
 -- the neighbour of hand towards goal
 unfoldable pub toward : ℕ → ℕ → ℕ
@@ -32,7 +32,7 @@ distance hand goal = (hand - goal) + (goal - hand)
 
 -- the moves that are left, and then the mark
 unfoldable pub finish : List Word → ℕ → ℕ → ℕ → ℕ → List Word
-finish ws hand goal mark home = marked (moves (distance hand goal) ws hand goal) mark goal home
+finish ws hand goal mark homeAt = marked (moves (distance hand goal) ws hand goal) mark goal homeAt
 
 -- ---- a move at a time
 
@@ -80,37 +80,37 @@ distance-some hand goal n e h = omega arith
 
 -- a move, and then finishing from the neighbour, is finishing
 pub finish-move :
-    (ws : List Word) (hand goal mark home : ℕ) →
+    (ws : List Word) (hand goal mark homeAt : ℕ) →
     (hand ≡ goal → ⊥) →
-    finish (exchange ws hand (toward hand goal)) (toward hand goal) goal mark home ≡ finish ws hand goal mark home
+    finish (exchange ws hand (toward hand goal)) (toward hand goal) goal mark homeAt ≡ finish ws hand goal mark homeAt
 unfolding finish moves
-finish-move ws hand goal mark home apart =
-    ap (λ (n : ℕ). marked (moves n ws hand goal) mark goal home) (sym (distance-toward hand goal apart))
+finish-move ws hand goal mark homeAt apart =
+    ap (λ (n : ℕ). marked (moves n ws hand goal) mark goal homeAt) (sym (distance-toward hand goal apart))
 
 -- at the goal only the mark is left
-pub finish-mark : (ws : List Word) (goal mark home : ℕ) → finish ws goal goal mark home ≡ marked ws mark goal home
+pub finish-mark : (ws : List Word) (goal mark homeAt : ℕ) → finish ws goal goal mark homeAt ≡ marked ws mark goal homeAt
 unfolding finish moves distance
-finish-mark ws goal mark home =
+finish-mark ws goal mark homeAt =
     let none : (goal - goal) + (goal - goal) ≡ 0 = omega arith in
-    ap (λ (n : ℕ). marked (moves n ws goal goal) mark goal home) none
+    ap (λ (n : ℕ). marked (moves n ws goal goal) mark goal homeAt) none
 
 -- ---- the three marks side by side
 
 -- what two tables share after mark 2, after mark 1 and as they are, they share after any mark
 pub marked-both :
-    (R : List Word → List Word → Type 0) (ws vs : List Word) (mark goal goal′ home home′ : ℕ) →
-    (mark ≡ 2 → R (setVirgin (setChange ws goal true) home) (setVirgin (setChange vs goal′ true) home′)) →
+    (R : List Word → List Word → Type 0) (ws vs : List Word) (mark goal goal′ homeAt home′ : ℕ) →
+    (mark ≡ 2 → R (setVirgin (setChange ws goal true) homeAt) (setVirgin (setChange vs goal′ true) home′)) →
     (mark ≡ 1 →
     R (setChange (setChange ws goal true) (goal - 1) false) (setChange (setChange vs goal′ true) (goal′ - 1) false)) →
     R ws vs →
-    R (marked ws mark goal home) (marked vs mark goal′ home′)
+    R (marked ws mark goal homeAt) (marked vs mark goal′ home′)
 unfolding marked
-marked-both R ws vs mark goal goal′ home home′ two one none = go (eqb mark 2) (eqb mark 1) refl refl
+marked-both R ws vs mark goal goal′ homeAt home′ two one none = go (eqb mark 2) (eqb mark 1) refl refl
   where
     go :
         (b c : Bool) → eqb mark 2 ≡ b → eqb mark 1 ≡ c →
         R
-        (cond b (setVirgin (setChange ws goal true) home)
+        (cond b (setVirgin (setChange ws goal true) homeAt)
         (cond c (setChange (setChange ws goal true) (goal - 1) false) ws))
         (cond b (setVirgin (setChange vs goal′ true) home′)
         (cond c (setChange (setChange vs goal′ true) (goal′ - 1) false) vs))

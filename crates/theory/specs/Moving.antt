@@ -17,7 +17,7 @@ use Rattle.rules.specs.Lists.{bitOf, count, all, any}
 use Rattle.rules.specs.Word.{Word, zeroWord, isVoid}
 use Rattle.rules.specs.Shape.{places, remainders}
 use Rattle.rules.specs.Entry.{Entry, sameHome, precedes}
-use Rattle.rules.specs.Table.{at, occupied, leftGap, rightGap, between, cluster, soundRun}
+use Rattle.rules.specs.Table.{at, occupiedPlaces, leftGap, rightGap, between, cluster, soundRun}
 use Rattle.rules.specs.Table.{entriesBetween, clusterEntries, guardsVoid, locked}
 use Rattle.rules.specs.Room.{place, roomFor}
 use Rattle.rules.specs.Lay.{holds, insert, hasHome, endsGroup, lay}
@@ -47,8 +47,8 @@ use Rattle.theory.specs.Cut.{CutBeside, cut-beside, CutHome, cut, cut-cl
 pub record Readable (side : Side) (sh : Shape) (ws : List Word) (l r : ℕ) (e : Entry) : Type 0 where
   pub low : remainders sh ≤ 4096
   pub remainder : e .remainder < remainders sh
-  pub after : l < e .home
-  pub before : e .home < r
+  pub after : l < e .homePlace
+  pub before : e .homePlace < r
   pub inside : r < length ws
   pub taken : all isOccupied (between ws l r) ≡ true
   pub sound : soundRun sh (between ws l r) ≡ true
@@ -65,7 +65,7 @@ pub record Brought (side : Side) (sh : Shape) (ws : List Word) (l r : ℕ) (e : 
       (end side l r)
       (from side l + smaller e (entriesBetween ws l r))
       (markOf e (entriesBetween ws l r))
-      (e .home)
+      (e .homePlace)
       ≡ take (from side l) ws ++ (region ++ drop (upTo side r) ws)
   pub enlarged : Run (remainders sh) (from side l) region (insert e (entriesBetween ws l r))
   pub locked : locks region ≡ locks (beside side (at ws (end side l r)) (between ws l r))
@@ -85,7 +85,7 @@ brought side {sh} {ws} {l} {r} {e} h =
           (sym here j)
           (sym (c .size) j + smaller e es)
           (markOf e es)
-          (e .home))
+          (e .homePlace))
           ∙ added .words;
       enlarged = subst (λ (a : ℕ). Run (remainders sh) a (added .region) (insert e es)) (c .size) (added .enlarged);
       locked = added .locked;
@@ -177,17 +177,17 @@ last-follows e es =
 pub record Addable (sh : Shape) (ws : List Word) (e : Entry) : Type 0 where
   pub low : remainders sh ≤ 4096
   pub remainder : e .remainder < remainders sh
-  pub home : HomePlace sh (e .home)
+  pub homePlace : HomePlace sh (e .homePlace)
   pub size : length ws ≡ places sh
-  pub sound : soundAround sh ws (e .home) ≡ true
-  pub free : lockedAround ws (e .home) ≡ false
-  pub new : holds e (clusterEntries ws (e .home)) ≡ false
+  pub sound : soundAround sh ws (e .homePlace) ≡ true
+  pub free : lockedAround ws (e .homePlace) ≡ false
+  pub new : holds e (clusterEntries ws (e .homePlace)) ≡ false
 
 -- the parts of sound surroundings
 pub record SoundAround (sh : Shape) (ws : List Word) (h : ℕ) : Type 0 where
   pub guards : guardsVoid sh ws ≡ true
-  pub left : isVoid (at ws (leftGap (occupied ws) h)) ≡ true
-  pub right : isVoid (at ws (rightGap (occupied ws) h)) ≡ true
+  pub left : isVoid (at ws (leftGap (occupiedPlaces ws) h)) ≡ true
+  pub right : isVoid (at ws (rightGap (occupiedPlaces ws) h)) ≡ true
   pub run : soundRun sh (cluster ws h) ≡ true
 
 pub sound-around : (sh : Shape) (ws : List Word) (h : ℕ) → soundAround sh ws h ≡ true → SoundAround sh ws h
@@ -197,8 +197,8 @@ sound-around sh ws h sound =
     let ends = and-right (guardsVoid sh ws) _ words in
     record {
       guards = and-left (guardsVoid sh ws) _ words;
-      left = and-left (isVoid (at ws (leftGap (occupied ws) h))) _ ends;
-      right = and-right (isVoid (at ws (leftGap (occupied ws) h))) _ ends;
+      left = and-left (isVoid (at ws (leftGap (occupiedPlaces ws) h))) _ ends;
+      right = and-right (isVoid (at ws (leftGap (occupiedPlaces ws) h))) _ ends;
       run = and-right (guardsVoid sh ws && _) (soundRun sh (cluster ws h)) sound;
     }
 
@@ -217,27 +217,27 @@ unlocked-beside gaps.right ws run l r free =
     or-parts (locked (at ws l ∷ [])) _ (sym (locked-append (at ws l ∷ []) (run ++ (at ws r ∷ []))) ∙ free) .1
 
 -- an entry laid alone at its home
-lay-alone : (e : Entry) → layRun (e .home) (insert e []) ≡ aloneWord (e .remainder) ∷ []
+lay-alone : (e : Entry) → layRun (e .homePlace) (insert e []) ≡ aloneWord (e .remainder) ∷ []
 unfolding layRun insert lay hasHome any endsGroup
 lay-alone e =
     ap
     (λ (b : Bool).
     record { remainder = e .remainder; occupied = true; virgin = b || false; change = true; lock = false } ∷ [])
-    (eq-eqb (e .home) (e .home) refl)
+    (eq-eqb (e .homePlace) (e .homePlace) refl)
 
 module _ {sh : Shape} {ws : List Word} {e : Entry} (a : Addable sh ws e) where
-  look : SoundAround sh ws (e .home)
-  look = sound-around sh ws (e .home) (a .sound)
+  look : SoundAround sh ws (e .homePlace)
+  look = sound-around sh ws (e .homePlace) (a .sound)
 
-  module _ (full : at ws (e .home) .occupied ≡ true) where
+  module _ (full : at ws (e .homePlace) .occupied ≡ true) where
     abbrev l : ℕ
-    l = leftGap (occupied ws) (e .home)
+    l = leftGap (occupiedPlaces ws) (e .homePlace)
 
     abbrev r : ℕ
-    r = rightGap (occupied ws) (e .home)
+    r = rightGap (occupiedPlaces ws) (e .homePlace)
 
-    apart : CutHome ws (e .home)
-    apart = cut-home sh ws (e .home) (a .size) (look .guards) (a .home) full
+    apart : CutHome ws (e .homePlace)
+    apart = cut-home sh ws (e .homePlace) (a .size) (look .guards) (a .homePlace) full
 
     ordered : l < r
     ordered = omega (arith, apart .after, apart .before)
@@ -249,7 +249,7 @@ module _ {sh : Shape} {ws : List Word} {e : Entry} (a : Addable sh ws e) where
     -- the gaps are places as the read step finds them
     pub readable :
         (side : Side) →
-        Readable side sh ws (leftGap (occupied ws) (e .home)) (rightGap (occupied ws) (e .home)) e
+        Readable side sh ws (leftGap (occupiedPlaces ws) (e .homePlace)) (rightGap (occupiedPlaces ws) (e .homePlace)) e
     unfolding cluster clusterEntries
     readable side =
         record {
@@ -275,7 +275,7 @@ module _ {sh : Shape} {ws : List Word} {e : Entry} (a : Addable sh ws e) where
         r
         (ap locked (sym (cut-closed ws l r ordered (apart .inside))) ∙ a .free)
 
-    pub begins-from : (side : Side) → enlargedFrom ws (e .home) (end side l r) ≡ from side l
+    pub begins-from : (side : Side) → enlargedFrom ws (e .homePlace) (end side l r) ≡ from side l
     unfolding enlargedFrom
     begins-from gaps.left = omega arith
     begins-from gaps.right = omega (arith, ordered)
@@ -286,9 +286,9 @@ module _ {sh : Shape} {ws : List Word} {e : Entry} (a : Addable sh ws e) where
         ≡ finish
         (fillAt (e .remainder) ws (end side l r))
         (end side l r)
-        (enlargedFrom ws (e .home) (end side l r) + smaller e (clusterEntries ws (e .home)))
-        (markOf e (clusterEntries ws (e .home)))
-        (e .home)
+        (enlargedFrom ws (e .homePlace) (end side l r) + smaller e (clusterEntries ws (e .homePlace)))
+        (markOf e (clusterEntries ws (e .homePlace)))
+        (e .homePlace)
     unfolding clusterEntries
     add-end side =
         add-from ws e p (from side l) es (begins-from side) refl
@@ -304,14 +304,14 @@ module _ {sh : Shape} {ws : List Word} {e : Entry} (a : Addable sh ws e) where
         (length-locks (b .region) mid (b .locked))
         ∙ sym (b .words)
         ∙ ap
-        (λ (n : ℕ). finish (fillAt (e .remainder) ws p) p (n + smaller e es) (markOf e es) (e .home))
+        (λ (n : ℕ). finish (fillAt (e .remainder) ws p) p (n + smaller e es) (markOf e es) (e .homePlace))
         (sym (begins-from side))
       where
         p : ℕ
         p = end side l r
 
         es : List Entry
-        es = clusterEntries ws (e .home)
+        es = clusterEntries ws (e .homePlace)
 
         mid : List Word
         mid = beside side (at ws p) (between ws l r)
@@ -332,54 +332,54 @@ module _ {sh : Shape} {ws : List Word} {e : Entry} (a : Addable sh ws e) where
             ∙ sym (locked-locks mid)
             ∙ unlocked side)
 
-    end-gap : (side : Side) → end side l r ≡ gap side (occupied ws) (e .home)
+    end-gap : (side : Side) → end side l r ≡ gap side (occupiedPlaces ws) (e .homePlace)
     end-gap gaps.left = refl
     end-gap gaps.right = refl
 
     -- at an occupied home: the fill at either gap, and finishing
     pub add-moves :
         (side : Side) →
-        addAt ws e (gap side (occupied ws) (e .home))
+        addAt ws e (gap side (occupiedPlaces ws) (e .homePlace))
         ≡ finish
-        (fillAt (e .remainder) ws (gap side (occupied ws) (e .home)))
-        (gap side (occupied ws) (e .home))
-        (enlargedFrom ws (e .home) (gap side (occupied ws) (e .home)) + smaller e (clusterEntries ws (e .home)))
-        (markOf e (clusterEntries ws (e .home)))
-        (e .home)
+        (fillAt (e .remainder) ws (gap side (occupiedPlaces ws) (e .homePlace)))
+        (gap side (occupiedPlaces ws) (e .homePlace))
+        (enlargedFrom ws (e .homePlace) (gap side (occupiedPlaces ws) (e .homePlace)) + smaller e (clusterEntries ws (e .homePlace)))
+        (markOf e (clusterEntries ws (e .homePlace)))
+        (e .homePlace)
     add-moves side = rw (end-gap side) at (add-end side)
 
   -- an unoccupied home is the place that the rule names, and gets one word
-  module _ (empty : at ws (e .home) .occupied ≡ false) where
-    pub room-alone : roomFor sh (occupied ws) (e .home) ≡ place (e .home)
+  module _ (empty : at ws (e .homePlace) .occupied ≡ false) where
+    pub room-alone : roomFor sh (occupiedPlaces ws) (e .homePlace) ≡ place (e .homePlace)
     unfolding roomFor
-    room-alone = rw (occupied-at ws (e .home), empty)
+    room-alone = rw (occupied-at ws (e .homePlace), empty)
 
-    pub add-alone : addAt ws e (e .home) ≡ set ws (e .home) (aloneWord (e .remainder))
+    pub add-alone : addAt ws e (e .homePlace) ≡ set ws (e .homePlace) (aloneWord (e .remainder))
     unfolding enlargedFrom places guardsVoid
     add-alone =
-        add-from ws e (e .home) (e .home) [] (omega (arith, own-gap, here)) no-entries
-        ∙ ap (sets ws (e .home)) (lay-alone e)
+        add-from ws e (e .homePlace) (e .homePlace) [] (omega (arith, own-gap, here)) no-entries
+        ∙ ap (sets ws (e .homePlace)) (lay-alone e)
       where
-        inside : e .home < length ws
-        inside = omega (arith, a .home .last, a .size)
+        inside : e .homePlace < length ws
+        inside = omega (arith, a .homePlace .last, a .size)
 
-        words : ws ≡ take (e .home) ws ++ (at ws (e .home) ∷ drop (suc (e .home)) ws)
-        words = split-at ws (e .home) zeroWord inside
+        words : ws ≡ take (e .homePlace) ws ++ (at ws (e .homePlace) ∷ drop (suc (e .homePlace)) ws)
+        words = split-at ws (e .homePlace) zeroWord inside
 
-        here : e .home ≡ length (take (e .home) ws)
-        here = sym (length-take-le (e .home) ws (omega (arith, inside)))
+        here : e .homePlace ≡ length (take (e .homePlace) ws)
+        here = sym (length-take-le (e .homePlace) ws (omega (arith, inside)))
 
-        origin : at (take (e .home) ws ++ (at ws (e .home) ∷ drop (suc (e .home)) ws)) 0 .occupied ≡ false
+        origin : at (take (e .homePlace) ws ++ (at ws (e .homePlace) ∷ drop (suc (e .homePlace)) ws)) 0 .occupied ≡ false
         origin =
             ap (λ (vs : List Word). at vs 0 .occupied) (sym words)
             ∙ void-free (at ws 0) (and-left (isVoid (at ws 0)) _ (look .guards))
 
-        own-gap : leftGap (occupied ws) (e .home) ≡ length (take (e .home) ws)
+        own-gap : leftGap (occupiedPlaces ws) (e .homePlace) ≡ length (take (e .homePlace) ws)
         own-gap =
-            ap₂ (λ (vs : List Word) (q : ℕ). leftGap (occupied vs) q) words here
-            ∙ gap-left (take (e .home) ws) (at ws (e .home)) (drop (suc (e .home)) ws) empty origin
+            ap₂ (λ (vs : List Word) (q : ℕ). leftGap (occupiedPlaces vs) q) words here
+            ∙ gap-left (take (e .homePlace) ws) (at ws (e .homePlace)) (drop (suc (e .homePlace)) ws) empty origin
 
-        no-entries : clusterEntries ws (e .home) ≡ []
+        no-entries : clusterEntries ws (e .homePlace) ≡ []
         no-entries =
             ap₂ clusterEntries words here
-            ∙ gap-entries (take (e .home) ws) (at ws (e .home)) (drop (suc (e .home)) ws) empty origin
+            ∙ gap-entries (take (e .homePlace) ws) (at ws (e .homePlace)) (drop (suc (e .homePlace)) ws) empty origin

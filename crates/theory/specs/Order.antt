@@ -20,7 +20,7 @@ use Rattle.rules.specs.Room.{Room, place, full, roomFor}
 use Rattle.theory.specs.Gaps.{Taken, Free, TakenFrom, AllTaken, Guarded, HomePlace, Nearest}
 use Rattle.theory.specs.Gaps.{set-keeps, set-taken, set-guarded}
 use Rattle.theory.specs.Gaps.{Side, left, other, home-no-guard, gap-stays, gap-shared}
-use Rattle.theory.specs.Gaps.{roomFrom, Chosen, home, first, second}
+use Rattle.theory.specs.Gaps.{roomFrom, Chosen, homeAt, first, second}
 use Rattle.theory.specs.Gaps.{chosen, chosen-only, chosen-nearest, chosen-full}
 use Rattle.theory.specs.Gaps.{room-left, room-full}
 
@@ -119,8 +119,8 @@ module _ {sh : Shape} {room : List Bool → ℕ → Room} (R : Rule sh room) whe
 chosen-stays :
     {s : Side} {sh : Shape} {os : List Bool} {h p q : ℕ} → Guarded sh os → HomePlace sh q → q ≢ p →
     Chosen s sh os h (place p) → Chosen s sh (set os q true) h (place p)
-chosen-stays {os = os} {h} {q = q} g k n (home f) =
-    home (getD-set-other os q h true false (λ e. n (sym e)) ∙ f)
+chosen-stays {os = os} {h} {q = q} g k n (homeAt f) =
+    homeAt (getD-set-other os q h true false (λ e. n (sym e)) ∙ f)
 chosen-stays {s} {sh} {os} {h} {q = q} g k n (first t m) =
     let e = gap-stays s h g k n in
     subst

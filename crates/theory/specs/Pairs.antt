@@ -14,7 +14,7 @@ use borrow.Author.Tests.{eqb-true}
 use Rattle.rules.specs.Lists.{count, all, any}
 use Rattle.rules.specs.Word.{Word, zeroWord, isVoid}
 use Rattle.rules.specs.Entry.{Entry}
-use Rattle.rules.specs.Table.{occupied, locked}
+use Rattle.rules.specs.Table.{occupiedPlaces, locked}
 use Rattle.rules.specs.Lay.{hasHome, lay}
 use Rattle.rules.specs.Put.{layRun}
 use Rattle.theory.specs.Run.{Asc, none, unlock, Run}
@@ -65,8 +65,8 @@ void-unlock g void = word-path remainder occ virgin change refl
     change : g .change ≡ false
     change = unless _ (and-right (not (g .virgin)) _ (and-right (not (g .occupied)) _ bits))
 
-pub all-occupied : (run : List Word) → all isOccupied run ≡ true → occupied run ≡ replicate (length run) true
-unfolding all occupied
+pub all-occupied : (run : List Word) → all isOccupied run ≡ true → occupiedPlaces run ≡ replicate (length run) true
+unfolding all occupiedPlaces
 all-occupied [] occ = refl
 all-occupied (w ∷ run) occ =
     ap₂ _∷_ (and-left (w .occupied) _ occ) (all-occupied run (and-right (w .occupied) _ occ))
@@ -75,27 +75,27 @@ all-occupied (w ∷ run) occ =
 span-occupied :
     {d p : ℕ} {run : List Word} {xs : List Entry} (g : Word) (v : List Word) →
     Run d p run xs →
-    g .occupied ≡ false → occupied (run ++ (g ∷ v)) ≡ replicate (length xs) true ++ (false ∷ occupied v)
-unfolding occupied
+    g .occupied ≡ false → occupiedPlaces (run ++ (g ∷ v)) ≡ replicate (length xs) true ++ (false ∷ occupiedPlaces v)
+unfolding occupiedPlaces
 span-occupied {run = run} g v r free =
     map-append isOccupied run (g ∷ v)
     ∙ ap₂
-    (λ (us : List Bool) (o : Bool). us ++ (o ∷ occupied v))
+    (λ (us : List Bool) (o : Bool). us ++ (o ∷ occupiedPlaces v))
     (all-occupied run (run-occupied r) ∙ ap (λ (n : ℕ). replicate n true) (sym (r .size)))
     free
 
 -- ---- A
-right-tight : {d p : ℕ} {ws : List Word} {es : List Entry} → Right d p ws es → TightFrom d p (occupied ws) es
-unfolding occupied
-right-tight (right-end e f) = tight-end (ap occupied e) f
+right-tight : {d p : ℕ} {ws : List Word} {es : List Entry} → Right d p ws es → TightFrom d p (occupiedPlaces ws) es
+unfolding occupiedPlaces
+right-tight (right-end e f) = tight-end (ap occupiedPlaces e) f
 right-tight {d} {p} (right-more run g v xs ys r void rest e f) =
     tight-more
-    (occupied v)
+    (occupiedPlaces v)
     xs
     ys
     (subst (λ (n : ℕ). Asc d (p + n) (p * 4096) xs) (sym (r .size)) (r .asc))
-    (subst (λ (n : ℕ). TightFrom d (suc (p + n)) (occupied v) ys) (sym (r .size)) (right-tight rest))
-    (ap occupied e ∙ span-occupied g v r (void-free g void))
+    (subst (λ (n : ℕ). TightFrom d (suc (p + n)) (occupiedPlaces v) ys) (sym (r .size)) (right-tight rest))
+    (ap occupiedPlaces e ∙ span-occupied g v r (void-free g void))
     f
 
 -- homes of a part, where they are those of the whole from a place on
@@ -123,20 +123,20 @@ homes-after whole xs ys up le same x low =
 
 right-lay :
     {d p : ℕ} {ws : List Word} {es : List Entry} (whole : List Entry) →
-    d ≤ 4096 → Right d p ws es → HomesFrom whole p es → lay whole p (occupied ws) es ≡ map unlock ws
-unfolding occupied lay layRun
+    d ≤ 4096 → Right d p ws es → HomesFrom whole p es → lay whole p (occupiedPlaces ws) es ≡ map unlock ws
+unfolding occupiedPlaces lay layRun
 right-lay {p = p} whole s (right-end e f) same =
-    ap₂ (λ (os : List Bool) (es : List Entry). lay whole p os es) (ap occupied e) f ∙ ap (map unlock) (sym e)
+    ap₂ (λ (os : List Bool) (es : List Entry). lay whole p os es) (ap occupiedPlaces e) f ∙ ap (map unlock) (sym e)
 right-lay {d} {p} whole s (right-more run g v xs ys r void rest e f) same =
     ap₂
     (λ (os : List Bool) (es : List Entry). lay whole p os es)
-    (ap occupied e ∙ span-occupied g v r (void-free g void))
+    (ap occupiedPlaces e ∙ span-occupied g v r (void-free g void))
     f
     ∙ lay-append
     whole
     p
     (p + length xs)
-    (false ∷ occupied v)
+    (false ∷ occupiedPlaces v)
     s
     (r .asc)
     (asc-weaken (omega arith) (le-refl _) (right-asc s rest))
@@ -147,7 +147,7 @@ right-lay {d} {p} whole s (right-more run g v xs ys r void rest e f) same =
     (ap₂
     _∷_
     (sym (void-unlock g void))
-    (ap (λ (n : ℕ). lay whole (suc (p + n)) (occupied v) ys) (r .size)
+    (ap (λ (n : ℕ). lay whole (suc (p + n)) (occupiedPlaces v) ys) (r .size)
     ∙ right-lay whole s rest (homes-after whole xs ys (r .asc) (omega arith) together)))
     ∙ sym (map-append unlock run (g ∷ v))
     ∙ ap (map unlock) (sym e)
@@ -158,16 +158,16 @@ right-lay {d} {p} whole s (right-more run g v xs ys r void rest e f) same =
     here : (i : ℕ) → i < length xs → hasHome whole (p + i) ≡ hasHome xs (p + i)
     here i lt = homes-here whole xs ys s (right-asc s rest) together (p + i) (omega arith) (omega (arith, r .size))
 
-pub table-tight : {d : ℕ} {ws : List Word} {es : List Entry} → Table d ws es → Tight d (occupied ws) es
-unfolding occupied
+pub table-tight : {d : ℕ} {ws : List Word} {es : List Entry} → Table d ws es → Tight d (occupiedPlaces ws) es
+unfolding occupiedPlaces
 table-tight {d} {es = es} (table {g = g} {v = v} void right) =
-    subst (λ (o : Bool). Tight d (o ∷ occupied v) es) (sym (void-free g void)) (tight (right-tight right))
+    subst (λ (o : Bool). Tight d (o ∷ occupiedPlaces v) es) (sym (void-free g void)) (tight (right-tight right))
 
 pub table-lay :
-    {d : ℕ} {ws : List Word} {es : List Entry} → d ≤ 4096 → Table d ws es → lay es 0 (occupied ws) es ≡ map unlock ws
-unfolding occupied lay
+    {d : ℕ} {ws : List Word} {es : List Entry} → d ≤ 4096 → Table d ws es → lay es 0 (occupiedPlaces ws) es ≡ map unlock ws
+unfolding occupiedPlaces lay
 table-lay {es = es} s (table {g = g} {v = v} void right) =
-    ap (λ (o : Bool). lay es 0 (o ∷ occupied v) es) (void-free g void)
+    ap (λ (o : Bool). lay es 0 (o ∷ occupiedPlaces v) es) (void-free g void)
     ∙ ap₂ _∷_ (sym (void-unlock g void)) (right-lay es s right (λ x low. refl))
 
 -- ---- B
@@ -287,8 +287,8 @@ tight-size (tight-more rest xs ys up more e f) =
 
 pub lay-marks :
     (whole : List Entry) (p : ℕ) (os : List Bool) (es : List Entry) →
-    taken os ≤ length es → occupied (lay whole p os es) ≡ os
-unfolding lay occupied count
+    taken os ≤ length es → occupiedPlaces (lay whole p os es) ≡ os
+unfolding lay occupiedPlaces count
 lay-marks whole p [] es room = refl
 lay-marks whole p (false ∷ os) es room =
     ap (λ (us : List Bool). false ∷ us) (lay-marks whole (suc p) os es (omega arith))
@@ -300,7 +300,7 @@ pub tight-taken : {d : ℕ} {os : List Bool} {es : List Entry} → Tight d os es
 unfolding count
 tight-taken (tight from) = omega (arith, tight-size from)
 
-pub lay-occupied : {d : ℕ} {os : List Bool} {es : List Entry} → Tight d os es → occupied (lay es 0 os es) ≡ os
+pub lay-occupied : {d : ℕ} {os : List Bool} {es : List Entry} → Tight d os es → occupiedPlaces (lay es 0 os es) ≡ os
 lay-occupied {os = os} {es} t = lay-marks es 0 os es (le-of-eq (tight-taken t))
 
 -- ---- locks aside
@@ -328,7 +328,7 @@ lay-free whole p os es = ap locked (sym (lay-unlocked whole p os es)) ∙ unlock
 pub table-unique :
     {d : ℕ} {ws vs : List Word} {es : List Entry} →
     d ≤ 4096 →
-    Table d ws es → locked ws ≡ false → Table d vs es → locked vs ≡ false → occupied ws ≡ occupied vs → ws ≡ vs
+    Table d ws es → locked ws ≡ false → Table d vs es → locked vs ≡ false → occupiedPlaces ws ≡ occupiedPlaces vs → ws ≡ vs
 table-unique {ws = ws} {vs} {es} s t free u also same =
     sym (unlocked-same ws free)
     ∙ sym (table-lay s t)

@@ -8,7 +8,7 @@ use native.Mathlib.Omega.{arith}
 use mathlib.Core.Path.{_≡_, refl, sym, ap, _∙_}
 use mathlib.Core.List.{List, [], _∷_, _++_, map}
 use lib.ListN.{length}
-use Rattle.rules.specs.Word.{Word, withPayload, withRemainder}
+use Rattle.rules.specs.Word.{Word, withPayload, filledWith}
 use Rattle.rules.specs.Phase.{exchange}
 use Rattle.theory.specs.Motion.{fillAt, toward, moves, distance, Heads, rightward, leftward, heads}
 use Rattle.theory.specs.Motion.{toward-lt, distance-toward, distance-none, distance-some}
@@ -53,29 +53,29 @@ wedge-loaded (suc i) v w (x ∷ vs) (y ∷ ws) e =
 
 -- a fill of the wedged word
 pub fillAt-wedge :
-    (x i : ℕ) (w : Word) (ws : List Word) → i ≤ length ws → fillAt x (wedge i w ws) i ≡ wedge i (withRemainder x w) ws
+    (x i : ℕ) (w : Word) (ws : List Word) → i ≤ length ws → fillAt x (wedge i w ws) i ≡ wedge i (filledWith x w) ws
 unfolding fillAt
 fillAt-wedge x zero w ws h = refl
 fillAt-wedge x (suc i) w [] h = absurd (not-suc-le-zero h)
 fillAt-wedge x (suc i) w (v ∷ ws) h = ap (λ (r : List Word). v ∷ r) (fillAt-wedge x i w ws (le-of-suc-le-suc h))
 
 -- two indices side by side, either way round
-data Beside : ℕ → ℕ → Type 0 where
-  right : Beside zero (suc zero)
-  left : Beside (suc zero) zero
-  next : {i j : ℕ} → Beside i j → Beside (suc i) (suc j)
+data Adjacent : ℕ → ℕ → Type 0 where
+  right : Adjacent zero (suc zero)
+  left : Adjacent (suc zero) zero
+  next : {i j : ℕ} → Adjacent i j → Adjacent (suc i) (suc j)
 
-beside-right : (i : ℕ) → Beside i (suc i)
-beside-right zero = right
-beside-right (suc i) = next (beside-right i)
+adjacent-right : (i : ℕ) → Adjacent i (suc i)
+adjacent-right zero = right
+adjacent-right (suc i) = next (adjacent-right i)
 
-beside-left : (i : ℕ) → Beside (suc i) i
-beside-left zero = left
-beside-left (suc i) = next (beside-left i)
+adjacent-left : (i : ℕ) → Adjacent (suc i) i
+adjacent-left zero = left
+adjacent-left (suc i) = next (adjacent-left i)
 
 -- an exchange with a neighbour carries the wedged payload there
 exchange-wedge :
-    {i j : ℕ} → Beside i j →
+    {i j : ℕ} → Adjacent i j →
     (k : Word) (ls ws : List Word) →
     i ≤ length ls → j ≤ length ls → length ws ≡ suc (length ls) →
     exchange (loaded (wedge i k ls) ws) i j ≡ loaded (wedge j k ls) ws
@@ -92,13 +92,13 @@ exchange-wedge (next b) k (l ∷ ls) (w ∷ ws) p q e =
     ap (λ (r : List Word). withPayload l w ∷ r)
     (exchange-wedge b k ls ws (le-of-suc-le-suc p) (le-of-suc-le-suc q) (suc-inj e))
 
-beside-toward : (hand goal : ℕ) → (hand ≡ goal → ⊥) → Beside hand (toward hand goal)
-beside-toward hand goal apart = go hand (heads hand goal apart)
+adjacent-toward : (hand goal : ℕ) → (hand ≡ goal → ⊥) → Adjacent hand (toward hand goal)
+adjacent-toward hand goal apart = go hand (heads hand goal apart)
   where
-    go : (h : ℕ) {q : ℕ} → Heads h goal q → Beside h q
-    go h (rightward l) = rw add-one (beside-right h)
+    go : (h : ℕ) {q : ℕ} → Heads h goal q → Adjacent h q
+    go h (rightward l) = rw add-one (adjacent-right h)
     go zero (leftward l) = absurd (not-suc-le-zero l)
-    go (suc h) (leftward l) = rw (let e : suc h - 1 ≡ h = omega arith in e) (beside-left h)
+    go (suc h) (leftward l) = rw (let e : suc h - 1 ≡ h = omega arith in e) (adjacent-left h)
 
 -- the moves to the goal carry the wedged payload there, to either side
 pub moves-wedge :
@@ -113,5 +113,5 @@ moves-wedge (suc n) hand goal k ls ws d p q e =
     let r = toward-lt hand goal (suc (length ls)) apart p q in
     ap
     (λ (vs : List Word). moves n vs (toward hand goal) goal)
-    (exchange-wedge (beside-toward hand goal apart) k ls ws (le-of-suc-le-suc p) (le-of-suc-le-suc r) e)
+    (exchange-wedge (adjacent-toward hand goal apart) k ls ws (le-of-suc-le-suc p) (le-of-suc-le-suc r) e)
     ∙ moves-wedge n (toward hand goal) goal k ls ws (suc-inj (sym (distance-toward hand goal apart) ∙ d)) r q e

@@ -13,7 +13,7 @@ use lib.Dec.{eqb}
 use lib.Seq.{slice, getD-append-seam, getD-append-add, take-append-add, take-append-seam, drop-append-seam}
 use Rattle.rules.specs.Lists.{all}
 use Rattle.rules.specs.Word.{Word, zeroWord, isVoid}
-use Rattle.rules.specs.Table.{at, occupied, leftGap, rightGap, between, cluster, virginPlaces, deal, entriesBetween}
+use Rattle.rules.specs.Table.{at, occupiedPlaces, leftGap, rightGap, between, cluster, virginPlaces, deal, entriesBetween}
 use Rattle.rules.specs.Table.{clusterEntries}
 use Rattle.theory.specs.Dealt.{isOccupied, and-left, and-right}
 use Rattle.theory.specs.Gaps.{Taken, Free, gap-only, leftGap-is, rightGap-is}
@@ -39,12 +39,12 @@ all-at f [] i h lt = absurd (omega arith)
 all-at f (w ∷ ws) zero h lt = and-left (f w) _ h
 all-at f (w ∷ ws) (suc i) h lt = all-at f ws i (and-right (f w) _ h) (omega arith)
 
-pub occupied-at : (ws : List Word) (p : ℕ) → getD (occupied ws) p false ≡ at ws p .occupied
-unfolding occupied
+pub occupied-at : (ws : List Word) (p : ℕ) → getD (occupiedPlaces ws) p false ≡ at ws p .occupied
+unfolding occupiedPlaces
 occupied-at ws p = List·getD-map isOccupied ws p zeroWord
 
-pub occupied-length : (ws : List Word) → length (occupied ws) ≡ length ws
-unfolding occupied
+pub occupied-length : (ws : List Word) → length (occupiedPlaces ws) ≡ length ws
+unfolding occupiedPlaces
 occupied-length ws = length-map ws isOccupied
 
 -- ---- words at a place of an append
@@ -74,21 +74,21 @@ slice-part xs ys zs l r p q =
 module _ (u : List Word) (g : Word) (v : List Word) (empty : g .occupied ≡ false)
     (origin : at (u ++ (g ∷ v)) 0 .occupied ≡ false)
   where
-    gap-free : Free (occupied (u ++ (g ∷ v))) (length u)
+    gap-free : Free (occupiedPlaces (u ++ (g ∷ v))) (length u)
     gap-free = occupied-at (u ++ (g ∷ v)) (length u) ∙ ap isOccupied (at-seam u g v) ∙ empty
 
-    pub gap-left : leftGap (occupied (u ++ (g ∷ v))) (length u) ≡ length u
+    pub gap-left : leftGap (occupiedPlaces (u ++ (g ∷ v))) (length u) ≡ length u
     gap-left =
         gap-only
         gaps.left
-        (leftGap-is (occupied (u ++ (g ∷ v))) (length u) (occupied-at (u ++ (g ∷ v)) 0 ∙ origin))
+        (leftGap-is (occupiedPlaces (u ++ (g ∷ v))) (length u) (occupied-at (u ++ (g ∷ v)) 0 ∙ origin))
         (record { side = le-refl _; free = gap-free; run = λ q x y n. absurd (n (omega arith)) })
 
-    pub gap-right : rightGap (occupied (u ++ (g ∷ v))) (length u) ≡ length u
+    pub gap-right : rightGap (occupiedPlaces (u ++ (g ∷ v))) (length u) ≡ length u
     gap-right =
         gap-only
         gaps.right
-        (rightGap-is (occupied (u ++ (g ∷ v))) (length u))
+        (rightGap-is (occupiedPlaces (u ++ (g ∷ v))) (length u))
         (record { side = le-refl _; free = gap-free; run = λ q x y n. absurd (n (omega arith)) })
 
     pub gap-cluster : cluster (u ++ (g ∷ v)) (length u) ≡ []
@@ -104,7 +104,7 @@ module _ (u : List Word) (g : Word) (v : List Word) (empty : g .occupied ≡ fal
     unfolding clusterEntries entriesBetween cluster deal virginPlaces
     gap-entries =
         ap
-        (λ (ws : List Word). deal (virginPlaces (suc (leftGap (occupied (u ++ (g ∷ v))) (length u))) ws) ws)
+        (λ (ws : List Word). deal (virginPlaces (suc (leftGap (occupiedPlaces (u ++ (g ∷ v))) (length u))) ws) ws)
         gap-cluster
 
 -- ---- a place of a run
@@ -117,7 +117,7 @@ module _ (u : List Word) (g : Word) (run : List Word) (h : Word) (v : List Word)
     abbrev ws : List Word
     ws = u ++ (g ∷ (run ++ (h ∷ v)))
 
-    pub run-taken : (q : ℕ) → length u < q → q < suc (length u) + length run → Taken (occupied ws) q
+    pub run-taken : (q : ℕ) → length u < q → q < suc (length u) + length run → Taken (occupiedPlaces ws) q
     run-taken q low high =
         occupied-at ws q
         ∙ ap (λ (p : ℕ). at ws p .occupied) (sym place)
@@ -129,11 +129,11 @@ module _ (u : List Word) (g : Word) (run : List Word) (h : Word) (v : List Word)
         place : suc (length u) + (q - suc (length u)) ≡ q
         place = omega arith
 
-    pub run-left : (p : ℕ) → length u < p → p < suc (length u) + length run → leftGap (occupied ws) p ≡ length u
+    pub run-left : (p : ℕ) → length u < p → p < suc (length u) + length run → leftGap (occupiedPlaces ws) p ≡ length u
     run-left p low high =
         gap-only
         gaps.left
-        (leftGap-is (occupied ws) p (occupied-at ws 0 ∙ origin))
+        (leftGap-is (occupiedPlaces ws) p (occupied-at ws 0 ∙ origin))
         (record {
           side = omega arith;
           free = occupied-at ws (length u) ∙ ap isOccupied (at-seam u g (run ++ (h ∷ v))) ∙ empty-left;
@@ -142,11 +142,11 @@ module _ (u : List Word) (g : Word) (run : List Word) (h : Word) (v : List Word)
 
     pub run-right :
         (p : ℕ) → length u < p → p < suc (length u) + length run →
-        rightGap (occupied ws) p ≡ suc (length u) + length run
+        rightGap (occupiedPlaces ws) p ≡ suc (length u) + length run
     run-right p low high =
         gap-only
         gaps.right
-        (rightGap-is (occupied ws) p)
+        (rightGap-is (occupiedPlaces ws) p)
         (record {
           side = omega arith;
           free =

@@ -13,7 +13,7 @@ use Rattle.rules.specs.Lists.{all}
 use Rattle.rules.specs.Word.{Word}
 use Rattle.rules.specs.Entry.{Entry}
 use Rattle.rules.specs.Shape.{remainders, places, rightGuard}
-use Rattle.rules.specs.Table.{at, occupied, leftGap, rightGap, clusterEntries, locked}
+use Rattle.rules.specs.Table.{at, occupiedPlaces, leftGap, rightGap, clusterEntries, locked}
 use Rattle.rules.specs.Room.{Room, place, full, roomFor}
 use Rattle.rules.specs.Lay.{holds, insert}
 use Rattle.rules.specs.Answer.{says, refuses}
@@ -52,18 +52,18 @@ lay-run-length a es = lay-length es a (replicate (length es) true) es ∙ length
 -- adding from the enlarged cluster's first place, and the cluster's entries
 pub add-from :
     (ws : List Word) (e : Entry) (p a : ℕ) (ys : List Entry) →
-    enlargedFrom ws (e .home) p ≡ a →
-    clusterEntries ws (e .home) ≡ ys → addAt ws e p ≡ sets ws a (layRun a (insert e ys))
+    enlargedFrom ws (e .homePlace) p ≡ a →
+    clusterEntries ws (e .homePlace) ≡ ys → addAt ws e p ≡ sets ws a (layRun a (insert e ys))
 unfolding addAt
 add-from ws e p a ys from here =
     ap₂ (λ (n : ℕ) (xs : List Entry). sets ws n (layRun n (insert e xs))) from here
 
 added-home :
-    {d : ℕ} {ws : List Word} {es : List Entry} (e : Entry) (t : AtGap d ws es (e .home)) →
+    {d : ℕ} {ws : List Word} {es : List Entry} (e : Entry) (t : AtGap d ws es (e .homePlace)) →
     d ≤ 4096 →
     e .remainder < d →
     at ws 0 .occupied ≡ false →
-    0 < length (t .u) → 0 < length (t .v) → Added d ws es e (e .home) (addAt ws e (e .home))
+    0 < length (t .u) → 0 < length (t .v) → Added d ws es e (e .homePlace) (addAt ws e (e .homePlace))
 unfolding enlargedFrom insert
 added-home {d} {ws} {es} e t s low start some more =
     subst₂
@@ -73,7 +73,7 @@ added-home {d} {ws} {es} e t s low start some more =
     (add-from
     ws
     e
-    (e .home)
+    (e .homePlace)
     (length (t .u))
     []
     first
@@ -95,20 +95,20 @@ added-home {d} {ws} {es} e t s low start some more =
     origin-here : at (t .u ++ (t .g ∷ t .v)) 0 .occupied ≡ false
     origin-here = sym (ap (λ (vs : List Word). at vs 0 .occupied) (t .words)) ∙ start
 
-    gap : leftGap (occupied ws) (e .home) ≡ length (t .u)
+    gap : leftGap (occupiedPlaces ws) (e .homePlace) ≡ length (t .u)
     gap =
-        ap₂ (λ (vs : List Word) (q : ℕ). leftGap (occupied vs) q) (t .words) (t .here)
+        ap₂ (λ (vs : List Word) (q : ℕ). leftGap (occupiedPlaces vs) q) (t .words) (t .here)
         ∙ gap-left (t .u) (t .g) (t .v) empty origin-here
 
-    first : enlargedFrom ws (e .home) (e .home) ≡ length (t .u)
+    first : enlargedFrom ws (e .homePlace) (e .homePlace) ≡ length (t .u)
     first = omega (arith, gap, t .here)
 
 -- the gaps and the entries of the home's cluster
 pub record Sees {d : ℕ} {ws : List Word} {es : List Entry} {p : ℕ} (t : InRun d ws es p) : Type 0 where
-  pub left : leftGap (occupied ws) p ≡ length (t .u)
-  pub right : rightGap (occupied ws) p ≡ suc (length (t .u)) + length (t .run)
+  pub left : leftGap (occupiedPlaces ws) p ≡ length (t .u)
+  pub right : rightGap (occupiedPlaces ws) p ≡ suc (length (t .u)) + length (t .run)
   pub entries : clusterEntries ws p ≡ t .ys
-  pub taken : Taken (occupied ws) p
+  pub taken : Taken (occupiedPlaces ws) p
 
 pub sees :
     {d : ℕ} {ws : List Word} {es : List Entry} {p : ℕ} (t : InRun d ws es p) →
@@ -116,10 +116,10 @@ pub sees :
 sees {d} {ws} {es} {p} t s start =
     record {
       left =
-          ap (λ (vs : List Word). leftGap (occupied vs) p) (t .words)
+          ap (λ (vs : List Word). leftGap (occupiedPlaces vs) p) (t .words)
           ∙ run-left (t .u) (t .g) (t .run) (t .h) (t .v) empty occ hollow origin-here p (t .after) (t .before);
       right =
-          ap (λ (vs : List Word). rightGap (occupied vs) p) (t .words)
+          ap (λ (vs : List Word). rightGap (occupiedPlaces vs) p) (t .words)
           ∙ run-right (t .u) (t .g) (t .run) (t .h) (t .v) empty occ hollow origin-here p (t .after) (t .before);
       entries =
           ap (λ (vs : List Word). clusterEntries vs p) (t .words)
@@ -138,7 +138,7 @@ sees {d} {ws} {es} {p} t s start =
           (t .before)
           ∙ run-entries s (t .inside);
       taken =
-          ap (λ (vs : List Word). getD (occupied vs) p false) (t .words)
+          ap (λ (vs : List Word). getD (occupiedPlaces vs) p false) (t .words)
           ∙ run-taken (t .u) (t .g) (t .run) (t .h) (t .v) empty occ hollow origin-here p (t .after) (t .before);
     }
   where
@@ -155,19 +155,19 @@ sees {d} {ws} {es} {p} t s start =
     origin-here = sym (ap (λ (vs : List Word). at vs 0 .occupied) (t .words)) ∙ start
 
 added-left :
-    {d : ℕ} {ws : List Word} {es : List Entry} (e : Entry) (t : InRun d ws es (e .home)) →
+    {d : ℕ} {ws : List Word} {es : List Entry} (e : Entry) (t : InRun d ws es (e .homePlace)) →
     Sees t →
     d ≤ 4096 →
     e .remainder < d →
     holds e (t .ys) ≡ false →
-    0 < length (t .u) → Added d ws es e (leftGap (occupied ws) (e .home)) (addAt ws e (leftGap (occupied ws) (e .home)))
+    0 < length (t .u) → Added d ws es e (leftGap (occupiedPlaces ws) (e .homePlace)) (addAt ws e (leftGap (occupiedPlaces ws) (e .homePlace)))
 unfolding enlargedFrom
 added-left {d} {ws} {es} e t look s low absent some =
     subst₂
     (Added d ws es e)
     (sym (look .left))
     (sym
-    (add-from ws e (leftGap (occupied ws) (e .home)) (length (t .u)) (t .ys) (omega (arith, look .left)) (look .entries)
+    (add-from ws e (leftGap (occupiedPlaces ws) (e .homePlace)) (length (t .u)) (t .ys) (omega (arith, look .left)) (look .entries)
     ∙ ap (λ (vs : List Word). sets vs (length (t .u)) l) (t .words)
     ∙ spliced (t .u) (t .g ∷ t .run) (t .h ∷ t .v) l (length (t .u)) refl long))
     (add-left e t s low absent some)
@@ -179,13 +179,13 @@ added-left {d} {ws} {es} e t look s low absent some =
     long = lay-run-length (length (t .u)) (insert e (t .ys)) ∙ insert-length e (t .ys) absent ∙ ap suc (t .inside .size)
 
 added-right :
-    {d : ℕ} {ws : List Word} {es : List Entry} (e : Entry) (t : InRun d ws es (e .home)) →
+    {d : ℕ} {ws : List Word} {es : List Entry} (e : Entry) (t : InRun d ws es (e .homePlace)) →
     Sees t →
     d ≤ 4096 →
     e .remainder < d →
     holds e (t .ys) ≡ false →
     0 < length (t .v) →
-    Added d ws es e (rightGap (occupied ws) (e .home)) (addAt ws e (rightGap (occupied ws) (e .home)))
+    Added d ws es e (rightGap (occupiedPlaces ws) (e .homePlace)) (addAt ws e (rightGap (occupiedPlaces ws) (e .homePlace)))
 unfolding enlargedFrom
 added-right {d} {ws} {es} e t look s low absent more =
     subst₂
@@ -195,7 +195,7 @@ added-right {d} {ws} {es} e t look s low absent more =
     (add-from
     ws
     e
-    (rightGap (occupied ws) (e .home))
+    (rightGap (occupiedPlaces ws) (e .homePlace))
     (suc (length (t .u)))
     (t .ys)
     (omega (arith, look .left, look .right))
@@ -229,13 +229,13 @@ pub data Puts (sh : Shape) (ws : List Word) (es : List Entry) (e : Entry) : Outc
   inserted :
       (p : ℕ) →
       holds e es ≡ false →
-      roomFor sh (occupied ws) (e .home) ≡ place p →
+      roomFor sh (occupiedPlaces ws) (e .homePlace) ≡ place p →
       Added (remainders sh) ws es e p (addAt ws e p) → Puts sh ws es e (writes (says 2) (addAt ws e p))
-  overflow : holds e es ≡ false → roomFor sh (occupied ws) (e .home) ≡ full → Puts sh ws es e (keeps (refuses 8))
+  overflow : holds e es ≡ false → roomFor sh (occupiedPlaces ws) (e .homePlace) ≡ full → Puts sh ws es e (keeps (refuses 8))
 
 pub table-guarded :
     (sh : Shape) {ws : List Word} {es : List Entry} →
-    length ws ≡ places sh → Table (remainders sh) ws es → Guarded sh (occupied ws)
+    length ws ≡ places sh → Table (remainders sh) ws es → Guarded sh (occupiedPlaces ws)
 table-guarded sh {ws} size t = void-guarded sh ws size (table-guards sh size t)
 
 -- a gap on the left that is not the left guard has words before it; one on the right that is not the right guard has
@@ -249,18 +249,18 @@ words-after sh u g v ws e size n = omega (arith, ap length e, length-append u (g
 module _ (sh : Shape) {ws : List Word} {es : List Entry} (e : Entry)
     (s : remainders sh ≤ 4096)
     (size : length ws ≡ places sh)
-    (k : HomePlace sh (e .home))
+    (k : HomePlace sh (e .homePlace))
     (low : e .remainder < remainders sh)
     (t : Table (remainders sh) ws es)
     (absent : holds e es ≡ false)
   where
     puts-gap :
         {r : Room} →
-        AtGap (remainders sh) ws es (e .home) →
-        roomFor sh (occupied ws) (e .home) ≡ r →
-        Chosen gaps.left sh (occupied ws) (e .home) r → Puts sh ws es e (addTo ws e r)
+        AtGap (remainders sh) ws es (e .homePlace) →
+        roomFor sh (occupiedPlaces ws) (e .homePlace) ≡ r →
+        Chosen gaps.left sh (occupiedPlaces ws) (e .homePlace) r → Puts sh ws es e (addTo ws e r)
     unfolding rightGuard
-    puts-gap x named c = go c (occupied-at ws (e .home) ∙ ap (λ (q : ℕ). at ws q .occupied) (x .here) ∙ empty) named
+    puts-gap x named c = go c (occupied-at ws (e .homePlace) ∙ ap (λ (q : ℕ). at ws q .occupied) (x .here) ∙ empty) named
       where
         empty : at ws (length (x .u)) .occupied ≡ false
         empty =
@@ -273,10 +273,10 @@ module _ (sh : Shape) {ws : List Word} {es : List Entry} (e : Entry)
 
         go :
             {r : Room} →
-            Chosen gaps.left sh (occupied ws) (e .home) r →
-            Free (occupied ws) (e .home) → roomFor sh (occupied ws) (e .home) ≡ r → Puts sh ws es e (addTo ws e r)
-        go (gaps.home f) free at-home =
-            inserted (e .home) absent at-home
+            Chosen gaps.left sh (occupiedPlaces ws) (e .homePlace) r →
+            Free (occupiedPlaces ws) (e .homePlace) → roomFor sh (occupiedPlaces ws) (e .homePlace) ≡ r → Puts sh ws es e (addTo ws e r)
+        go (gaps.homeAt f) free at-home =
+            inserted (e .homePlace) absent at-home
             (added-home
             e
             x
@@ -291,15 +291,15 @@ module _ (sh : Shape) {ws : List Word} {es : List Entry} (e : Entry)
 
     puts-run :
         {r : Room} →
-        InRun (remainders sh) ws es (e .home) →
-        roomFor sh (occupied ws) (e .home) ≡ r →
-        Chosen gaps.left sh (occupied ws) (e .home) r → Puts sh ws es e (addTo ws e r)
+        InRun (remainders sh) ws es (e .homePlace) →
+        roomFor sh (occupiedPlaces ws) (e .homePlace) ≡ r →
+        Chosen gaps.left sh (occupiedPlaces ws) (e .homePlace) r → Puts sh ws es e (addTo ws e r)
     puts-run x named c = go c named
       where
         look : Sees x
         look = sees x s (origin t)
 
-        more : (rightGap (occupied ws) (e .home) ≡ rightGuard sh → ⊥) → 0 < length (x .v)
+        more : (rightGap (occupiedPlaces ws) (e .homePlace) ≡ rightGuard sh → ⊥) → 0 < length (x .v)
         more n =
             words-after
             sh
@@ -319,40 +319,40 @@ module _ (sh : Shape) {ws : List Word} {es : List Entry} (e : Entry)
 
         go :
             {r : Room} →
-            Chosen gaps.left sh (occupied ws) (e .home) r →
-            roomFor sh (occupied ws) (e .home) ≡ r → Puts sh ws es e (addTo ws e r)
-        go (gaps.home f) at-home = absurd (true≢false (sym (look .taken) ∙ f))
+            Chosen gaps.left sh (occupiedPlaces ws) (e .homePlace) r →
+            roomFor sh (occupiedPlaces ws) (e .homePlace) ≡ r → Puts sh ws es e (addTo ws e r)
+        go (gaps.homeAt f) at-home = absurd (true≢false (sym (look .taken) ∙ f))
         go (gaps.first y n) at-home =
             inserted
-            (leftGap (occupied ws) (e .home))
+            (leftGap (occupiedPlaces ws) (e .homePlace))
             absent
             at-home
             (added-left e x look s low not-here (omega (arith, look .left, n)))
         go (gaps.second y a n) at-home =
-            inserted (rightGap (occupied ws) (e .home)) absent at-home (added-right e x look s low not-here (more n))
+            inserted (rightGap (occupiedPlaces ws) (e .homePlace)) absent at-home (added-right e x look s low not-here (more n))
         go (gaps.none y a b) at-home = overflow absent at-home
 
-    puts-absent : Puts sh ws es e (addTo ws e (roomFor sh (occupied ws) (e .home)))
+    puts-absent : Puts sh ws es e (addTo ws e (roomFor sh (occupiedPlaces ws) (e .homePlace)))
     unfolding places
-    puts-absent = go (locate (e .home) t (omega (arith, k .last)))
+    puts-absent = go (locate (e .homePlace) t (omega (arith, k .last)))
       where
-        go : Located (remainders sh) ws es (e .home) → Puts sh ws es e (addTo ws e (roomFor sh (occupied ws) (e .home)))
-        go (at-gap x) = puts-gap x refl (room-chosen sh (occupied ws) (e .home))
-        go (in-run x) = puts-run x refl (room-chosen sh (occupied ws) (e .home))
+        go : Located (remainders sh) ws es (e .homePlace) → Puts sh ws es e (addTo ws e (roomFor sh (occupiedPlaces ws) (e .homePlace)))
+        go (at-gap x) = puts-gap x refl (room-chosen sh (occupiedPlaces ws) (e .homePlace))
+        go (in-run x) = puts-run x refl (room-chosen sh (occupiedPlaces ws) (e .homePlace))
 
 -- put on an unlocked table
 pub put-table :
     (sh : Shape) {ws : List Word} {es : List Entry} (e : Entry) →
     remainders sh ≤ 4096 →
     length ws ≡ places sh →
-    HomePlace sh (e .home) →
+    HomePlace sh (e .homePlace) →
     e .remainder < remainders sh →
     Table (remainders sh) ws es → locked ws ≡ false → Puts sh ws es e (putIn sh ws e)
 unfolding putIn
 put-table sh {ws} {es} e s size k low t free =
     subst
     (Puts sh ws es e)
-    (sym (rw (look .sound, around-free ws (e .home) free, look .same) refl))
+    (sym (rw (look .sound, around-free ws (e .homePlace) free, look .same) refl))
     (go (holds e es) refl)
   where
     look : Surroundings sh ws es e
@@ -360,6 +360,6 @@ put-table sh {ws} {es} e s size k low t free =
 
     go :
         (b : Bool) → holds e es ≡ b →
-        Puts sh ws es e (cond b (keeps (says 1)) (addTo ws e (roomFor sh (occupied ws) (e .home))))
+        Puts sh ws es e (cond b (keeps (says 1)) (addTo ws e (roomFor sh (occupiedPlaces ws) (e .homePlace))))
     go true h = found h
     go false h = puts-absent sh e s size k low t h

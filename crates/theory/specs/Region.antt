@@ -10,8 +10,8 @@ use mathlib.Core.Bool.{Bool, true, false}
 use mathlib.Core.List.{List, [], _∷_, _++_, map}
 use lib.ListN.{length, length-map, getD, set, length-set, List·getD-map, List·getD-append}
 use lib.Seq.{lt-length-set, map-set-same, set-append-left, getD-append-add}
-use Rattle.rules.specs.Word.{Word, zeroWord, withRemainder, withPayload, withChange, withVirgin}
-use Rattle.rules.specs.Table.{at, occupied}
+use Rattle.rules.specs.Word.{Word, zeroWord, filledWith, withPayload, withChange, withVirgin}
+use Rattle.rules.specs.Table.{at, occupiedPlaces}
 use Rattle.rules.specs.Phase.{exchange, setChange, setVirgin, marked}
 use Rattle.theory.specs.Run.{unlock}
 use Rattle.theory.specs.Motion.{fillAt, toward, moves, distance, finish, marked-both}
@@ -37,7 +37,7 @@ alter-unlock f same ws p = map-set unlock ws p (f (at ws p)) ∙ rw (at-unlock w
 
 pub fillAt-unlock : (x : ℕ) (ws : List Word) (p : ℕ) → map unlock (fillAt x ws p) ≡ fillAt x (map unlock ws) p
 unfolding fillAt
-fillAt-unlock x ws p = alter-unlock (withRemainder x) (λ w. refl) ws p
+fillAt-unlock x ws p = alter-unlock (filledWith x) (λ w. refl) ws p
 
 exchange-unlock : (ws : List Word) (p q : ℕ) → map unlock (exchange ws p q) ≡ exchange (map unlock ws) p q
 unfolding exchange
@@ -60,10 +60,10 @@ unfolding setVirgin
 virgin-unlock ws p = alter-unlock (withVirgin true) (λ w. refl) ws p
 
 pub finish-unlock :
-    (ws : List Word) (hand goal mark home : ℕ) →
-    map unlock (finish ws hand goal mark home) ≡ finish (map unlock ws) hand goal mark home
+    (ws : List Word) (hand goal mark homeAt : ℕ) →
+    map unlock (finish ws hand goal mark homeAt) ≡ finish (map unlock ws) hand goal mark homeAt
 unfolding finish
-finish-unlock ws hand goal mark home =
+finish-unlock ws hand goal mark homeAt =
     marked-both
     (λ us vs. map unlock us ≡ vs)
     (moves (distance hand goal) ws hand goal)
@@ -71,8 +71,8 @@ finish-unlock ws hand goal mark home =
     mark
     goal
     goal
-    home
-    home
+    homeAt
+    homeAt
     (λ two. rw (virgin-unlock, change-unlock, moves-unlock))
     (λ one. rw (change-unlock, change-unlock, moves-unlock))
     (moves-unlock (distance hand goal) ws hand goal)
@@ -130,9 +130,9 @@ module _ (f : Word → Bool) (fixed : Fixed f) where
   unfolding setVirgin
   virgin-keeps ws p = set-keeps ws ws p (withVirgin true (at ws p)) refl (fixed .virgin (at ws p))
 
-  finish-keeps : (ws : List Word) (hand goal mark home : ℕ) → map f (finish ws hand goal mark home) ≡ map f ws
+  finish-keeps : (ws : List Word) (hand goal mark homeAt : ℕ) → map f (finish ws hand goal mark homeAt) ≡ map f ws
   unfolding finish
-  finish-keeps ws hand goal mark home =
+  finish-keeps ws hand goal mark homeAt =
       let moved = moves (distance hand goal) ws hand goal in
       let kept : map f moved ≡ map f ws = moves-keeps (distance hand goal) ws hand goal in
       marked-both
@@ -142,18 +142,18 @@ module _ (f : Word → Bool) (fixed : Fixed f) where
       mark
       goal
       goal
-      home
-      home
-      (λ two. virgin-keeps (setChange moved goal true) home ∙ change-keeps moved goal true ∙ kept)
+      homeAt
+      homeAt
+      (λ two. virgin-keeps (setChange moved goal true) homeAt ∙ change-keeps moved goal true ∙ kept)
       (λ one. change-keeps (setChange moved goal true) (goal - 1) false ∙ change-keeps moved goal true ∙ kept)
       kept
 
 pub fillAt-locks : (x : ℕ) (ws : List Word) (p : ℕ) → locks (fillAt x ws p) ≡ locks ws
 unfolding fillAt
-fillAt-locks x ws p = map-set-same (λ (w : Word). w .lock) ws p (withRemainder x (at ws p)) zeroWord refl
+fillAt-locks x ws p = map-set-same (λ (w : Word). w .lock) ws p (filledWith x (at ws p)) zeroWord refl
 
-pub finish-locks : (ws : List Word) (hand goal mark home : ℕ) → locks (finish ws hand goal mark home) ≡ locks ws
-finish-locks ws hand goal mark home =
+pub finish-locks : (ws : List Word) (hand goal mark homeAt : ℕ) → locks (finish ws hand goal mark homeAt) ≡ locks ws
+finish-locks ws hand goal mark homeAt =
     finish-keeps
     (λ (w : Word). w .lock)
     (record { payload = λ v w. refl; change = λ b w. refl; virgin = λ w. refl })
@@ -161,16 +161,16 @@ finish-locks ws hand goal mark home =
     hand
     goal
     mark
-    home
+    homeAt
 
-pub fillAt-occupied : (x : ℕ) (ws : List Word) (p : ℕ) → occupied (fillAt x ws p) ≡ set (occupied ws) p true
-unfolding fillAt occupied
-fillAt-occupied x ws p = map-set (λ (w : Word). w .occupied) ws p (withRemainder x (at ws p))
+pub fillAt-occupied : (x : ℕ) (ws : List Word) (p : ℕ) → occupiedPlaces (fillAt x ws p) ≡ set (occupiedPlaces ws) p true
+unfolding fillAt occupiedPlaces
+fillAt-occupied x ws p = map-set (λ (w : Word). w .occupied) ws p (filledWith x (at ws p))
 
 pub finish-occupied :
-    (ws : List Word) (hand goal mark home : ℕ) → occupied (finish ws hand goal mark home) ≡ occupied ws
-unfolding occupied
-finish-occupied ws hand goal mark home =
+    (ws : List Word) (hand goal mark homeAt : ℕ) → occupiedPlaces (finish ws hand goal mark homeAt) ≡ occupiedPlaces ws
+unfolding occupiedPlaces
+finish-occupied ws hand goal mark homeAt =
     finish-keeps
     (λ (w : Word). w .occupied)
     (record { payload = λ v w. refl; change = λ b w. refl; virgin = λ w. refl })
@@ -178,7 +178,7 @@ finish-occupied ws hand goal mark home =
     hand
     goal
     mark
-    home
+    homeAt
 
 -- ---- within a region
 
@@ -207,7 +207,7 @@ pub fillAt-within :
     i < length mid →
     fillAt x (pre ++ (mid ++ post)) (length pre + i) ≡ pre ++ (fillAt x mid i ++ post)
 unfolding fillAt
-fillAt-within x pre mid post i h = alter-within (withRemainder x) pre mid post i h
+fillAt-within x pre mid post i h = alter-within (filledWith x) pre mid post i h
 
 exchange-within :
     (pre mid post : List Word) (i j : ℕ) →
@@ -279,11 +279,11 @@ length-change ws p b = length-set ws p (withChange b (at ws p))
 
 -- mark 1 writes at goal − 1, which must be in the region too
 marked-within :
-    (pre mid post : List Word) (mark goal home : ℕ) →
-    goal < length mid → home < length mid → (mark ≡ 1 → 0 < goal) →
-    marked (pre ++ (mid ++ post)) mark (length pre + goal) (length pre + home)
-    ≡ pre ++ (marked mid mark goal home ++ post)
-marked-within pre mid post mark goal home g h inner =
+    (pre mid post : List Word) (mark goal homeAt : ℕ) →
+    goal < length mid → homeAt < length mid → (mark ≡ 1 → 0 < goal) →
+    marked (pre ++ (mid ++ post)) mark (length pre + goal) (length pre + homeAt)
+    ≡ pre ++ (marked mid mark goal homeAt ++ post)
+marked-within pre mid post mark goal homeAt g h inner =
     marked-both
     (λ us vs. us ≡ pre ++ (vs ++ post))
     (pre ++ (mid ++ post))
@@ -291,11 +291,11 @@ marked-within pre mid post mark goal home g h inner =
     mark
     (length pre + goal)
     goal
-    (length pre + home)
-    home
+    (length pre + homeAt)
+    homeAt
     (λ two.
     rw (change-within pre mid post goal true g)
-    (virgin-within pre (setChange mid goal true) post home (rw (length-change mid goal true) h)))
+    (virgin-within pre (setChange mid goal true) post homeAt (rw (length-change mid goal true) h)))
     (λ one.
     let p : length pre + goal - 1 ≡ length pre + (goal - 1) = omega (arith, inner one) in
     let l : goal - 1 < length mid = omega arith in
@@ -304,19 +304,19 @@ marked-within pre mid post mark goal home g h inner =
     refl
 
 pub finish-within :
-    (pre mid post : List Word) (hand goal mark home : ℕ) →
-    hand < length mid → goal < length mid → home < length mid → (mark ≡ 1 → 0 < goal) →
-    finish (pre ++ (mid ++ post)) (length pre + hand) (length pre + goal) mark (length pre + home)
-    ≡ pre ++ (finish mid hand goal mark home ++ post)
+    (pre mid post : List Word) (hand goal mark homeAt : ℕ) →
+    hand < length mid → goal < length mid → homeAt < length mid → (mark ≡ 1 → 0 < goal) →
+    finish (pre ++ (mid ++ post)) (length pre + hand) (length pre + goal) mark (length pre + homeAt)
+    ≡ pre ++ (finish mid hand goal mark homeAt ++ post)
 unfolding finish distance
-finish-within pre mid post hand goal mark home i g h inner =
+finish-within pre mid post hand goal mark homeAt i g h inner =
     let a = length pre in
     let n = (hand - goal) + (goal - hand) in
     let far : (a + hand - (a + goal)) + (a + goal - (a + hand)) ≡ n = omega arith in
     let done = moves n mid hand goal in
     rw
     (far, moves-within n pre mid post hand goal refl i g)
-    (marked-within pre done post mark goal home
+    (marked-within pre done post mark goal homeAt
     (rw (length-moves n mid hand goal) g)
     (rw (length-moves n mid hand goal) h)
     inner)

@@ -13,14 +13,14 @@ use Rattle.rules.specs.Put.{layRun}
 
 -- an entry as one number: by home, then by remainder, since remainders are below 4096
 abbrev pub code : Entry → ℕ
-code e = e .home * 4096 + e .remainder
+code e = e .homePlace * 4096 + e .remainder
 
 -- strictly ascending entries, none with a code below b, remainders below d, homes below c
 pub data Asc (d c : ℕ) : ℕ → List Entry → Type 0 where
   none : {b : ℕ} → Asc d c b []
   next :
       {b : ℕ} {e : Entry} {es : List Entry} →
-      b ≤ code e → e .remainder < d → e .home < c → Asc d c (suc (code e)) es → Asc d c b (e ∷ es)
+      b ≤ code e → e .remainder < d → e .homePlace < c → Asc d c (suc (code e)) es → Asc d c b (e ∷ es)
 
 abbrev pub unlock : Word → Word
 unlock w = withLock false w

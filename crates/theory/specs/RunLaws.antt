@@ -134,20 +134,20 @@ sound-is-run sh a run s occ snd =
 -- ---- B: the homes of ascending entries, each once, are the virgin places of what laying them gives
 later : Entry → List Entry → List ℕ
 later e [] = []
-later e (f ∷ es) = cond (sameHome e f) (later f es) (f .home ∷ later f es)
+later e (f ∷ es) = cond (sameHome e f) (later f es) (f .homePlace ∷ later f es)
 
-same-home : (e f : Entry) → sameHome e f ≡ true → e .home ≡ f .home
+same-home : (e f : Entry) → sameHome e f ≡ true → e .homePlace ≡ f .homePlace
 unfolding sameHome
-same-home e f same = eqb-true (e .home) (f .home) same
+same-home e f same = eqb-true (e .homePlace) (f .homePlace) same
 
-other-home : (e f : Entry) → sameHome e f ≡ false → e .home ≡ f .home → ⊥
+other-home : (e f : Entry) → sameHome e f ≡ false → e .homePlace ≡ f .homePlace → ⊥
 unfolding sameHome
-other-home e f other = eqb-false (e .home) (f .home) other
+other-home e f other = eqb-false (e .homePlace) (f .homePlace) other
 
 -- each of some ascending entries has its word dealt to it
 asc-dealt :
     {d c b : ℕ} (whole : List Entry) (q h : ℕ) (e : Entry) (es : List Entry) →
-    e .home ≡ h →
+    e .homePlace ≡ h →
     Asc d c b (e ∷ es) → Dealt d (h ∷ later e es) (lay whole q (replicate (length (e ∷ es)) true) (e ∷ es)) (e ∷ es)
 unfolding later lay endsGroup
 asc-dealt whole q h e [] p (next b l u none) = dealt-ends refl l p refl dealt-none
@@ -157,21 +157,21 @@ asc-dealt {d} whole q h e (f ∷ es) p (next b l u (next b₁ l₁ u₁ up)) =
     go :
         (x : Bool) →
         sameHome e f ≡ x →
-        ((g : ℕ) → f .home ≡ g →
+        ((g : ℕ) → f .homePlace ≡ g →
         Dealt d (g ∷ later f es) (lay whole (suc q) (replicate (length (f ∷ es)) true) (f ∷ es)) (f ∷ es)) →
         Dealt
         d
-        (h ∷ cond x (later f es) (f .home ∷ later f es))
+        (h ∷ cond x (later f es) (f .homePlace ∷ later f es))
         (lay whole q (replicate (length (e ∷ f ∷ es)) true) (e ∷ f ∷ es))
         (e ∷ f ∷ es)
     go true same rest =
         let rises : e .remainder < f .remainder = omega (arith, same-home e f same) in
         dealt-goes (ap not same) l rises p refl (rest h (omega (arith, same-home e f same)))
-    go false other rest = dealt-ends (ap not other) l p refl (rest (f .home) refl)
+    go false other rest = dealt-ends (ap not other) l p refl (rest (f .homePlace) refl)
 
 later-rising :
     {d c b : ℕ} (e : Entry) (es : List Entry) →
-    d ≤ 4096 → Asc d c b (e ∷ es) → (k : ℕ) → k ≤ suc (e .home) → Rising c k (later e es)
+    d ≤ 4096 → Asc d c b (e ∷ es) → (k : ℕ) → k ≤ suc (e .homePlace) → Rising c k (later e es)
 unfolding later
 later-rising e [] s up k le = rising-none
 later-rising {c = c} e (f ∷ es) s (next b l u (next b₁ l₁ u₁ up)) k le =
@@ -180,12 +180,12 @@ later-rising {c = c} e (f ∷ es) s (next b l u (next b₁ l₁ u₁ up)) k le =
     go :
         (x : Bool) →
         sameHome e f ≡ x →
-        ((j : ℕ) → j ≤ suc (f .home) → Rising c j (later f es)) →
-        Rising c k (cond x (later f es) (f .home ∷ later f es))
+        ((j : ℕ) → j ≤ suc (f .homePlace) → Rising c j (later f es)) →
+        Rising c k (cond x (later f es) (f .homePlace ∷ later f es))
     go true same rest = rest k (omega (arith, same-home e f same))
     go false other rest =
-        let after : k ≤ f .home = omega (arith, other-home e f other) in
-        rising-next after u₁ (rest (suc (f .home)) (le-refl _))
+        let after : k ≤ f .homePlace = omega (arith, other-home e f other) in
+        rising-next after u₁ (rest (suc (f .homePlace)) (le-refl _))
 
 -- the places of a stretch that pass a test
 pick : (ℕ → Bool) → ℕ → ℕ → List ℕ
@@ -262,20 +262,20 @@ unfolding layRun pick lay
 laid-out d a [] s up = record { homes = []; here = lay-virgins [] a []; given = dealt-none }
 laid-out d a (e ∷ es) s (next b l u up) =
     record {
-      homes = e .home ∷ later e es;
+      homes = e .homePlace ∷ later e es;
       here =
           lay-virgins (e ∷ es) a (e ∷ es)
-          ∙ pick-rising (hasHome (e ∷ es)) (length (e ∷ es)) a (a + length (e ∷ es)) (e .home ∷ later e es) (le-refl _)
-          (rising-next from u (later-rising e es s (next b l u up) (suc (e .home)) (le-refl _)))
+          ∙ pick-rising (hasHome (e ∷ es)) (length (e ∷ es)) a (a + length (e ∷ es)) (e .homePlace ∷ later e es) (le-refl _)
+          (rising-next from u (later-rising e es s (next b l u up) (suc (e .homePlace)) (le-refl _)))
           (λ x le. dealt-homes x cards);
       given = cards;
     }
   where
-    from : a ≤ e .home
+    from : a ≤ e .homePlace
     from = omega arith
 
-    cards : Dealt d (e .home ∷ later e es) (lay (e ∷ es) a (replicate (length (e ∷ es)) true) (e ∷ es)) (e ∷ es)
-    cards = asc-dealt (e ∷ es) a (e .home) e es refl (next b l u up)
+    cards : Dealt d (e .homePlace ∷ later e es) (lay (e ∷ es) a (replicate (length (e ∷ es)) true) (e ∷ es)) (e ∷ es)
+    cards = asc-dealt (e ∷ es) a (e .homePlace) e es refl (next b l u up)
 
 laid-sound : (sh : Shape) (a : ℕ) (es : List Entry) → LaidOut (remainders sh) a es → soundRun sh (layRun a es) ≡ true
 unfolding soundRun

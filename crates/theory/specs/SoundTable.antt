@@ -14,7 +14,7 @@ use Rattle.rules.specs.Lists.{count, all}
 use Rattle.rules.specs.Word.{Word, zeroWord, isVoid}
 use Rattle.rules.specs.Entry.{Entry}
 use Rattle.rules.specs.Shape.{homes, remainders, places, rightGuard}
-use Rattle.rules.specs.Table.{at, occupied, cluster, endsInChange, rising, soundRun, virginPlaces, deal, entryAt}
+use Rattle.rules.specs.Table.{at, occupiedPlaces, cluster, endsInChange, rising, soundRun, virginPlaces, deal, entryAt}
 use Rattle.rules.specs.Table.{entriesFrom, entries, soundAt, soundFrom, guardsVoid, sound}
 use Rattle.theory.specs.Run.{Run}
 use Rattle.theory.specs.Dealt.{isOccupied, and-left, and-right, and-both}
@@ -95,9 +95,9 @@ module _ (u : List Word) (g : Word) (run : List Word) (h : Word) (v : List Word)
     es = deal (virginPlaces (suc (length u)) run) run
 
     run-entry :
-        (i : ℕ) → i < length run → entryAt ws (suc (length u) + i) ≡ getD es i (record { home = 0; remainder = 0 })
+        (i : ℕ) → i < length run → entryAt ws (suc (length u) + i) ≡ getD es i (record { homePlace = 0; remainder = 0 })
     unfolding entryAt
-    run-entry i lt = ap₂ (λ (fs : List Entry) (n : ℕ). getD fs n (record { home = 0; remainder = 0 }))
+    run-entry i lt = ap₂ (λ (fs : List Entry) (n : ℕ). getD fs n (record { homePlace = 0; remainder = 0 }))
         (run-cluster-entries
         u
         g
@@ -137,7 +137,7 @@ module _ (u : List Word) (g : Word) (run : List Word) (h : Word) (v : List Word)
         (run-entry i (omega arith))
         (ap (λ (n : ℕ). entriesFrom ws n back) (omega arith)
         ∙ run-entries-from (suc i) back (omega arith) long (and-right (b .occupied) _ occ))
-        ∙ sym (drop-cons es i (record { home = 0; remainder = 0 }) (omega arith))
+        ∙ sym (drop-cons es i (record { homePlace = 0; remainder = 0 }) (omega arith))
 
     -- the right gap is sound where it is void
     right-sound : (sh : Shape) (p : ℕ) → soundAt sh ws p h ≡ isVoid h

@@ -12,11 +12,11 @@ use Rattle.rules.specs.Lists.{all}
 use Rattle.rules.specs.Word.{Word, lockWord}
 use Rattle.rules.specs.Shape.{remainders, keys, places, rightGuard}
 use Rattle.rules.specs.Entry.{Entry, split}
-use Rattle.rules.specs.Table.{at, occupied, leftGap, rightGap, between, cluster, soundRun, virginPlaces, deal}
+use Rattle.rules.specs.Table.{at, occupiedPlaces, leftGap, rightGap, between, cluster, soundRun, virginPlaces, deal}
 use Rattle.rules.specs.Table.{entriesBetween}
 use Rattle.rules.specs.Table.{clusterEntries}
 use Rattle.rules.specs.Lay.{holds}
-use Rattle.rules.specs.Record.{homePlace}
+use Rattle.rules.specs.Record.{homePlaceOf}
 use Rattle.rules.specs.Give.{taskAt}
 use Rattle.table_words.specs.Split.{split-in-shape}
 use Rattle.theory.specs.Run.{unlock}
@@ -34,9 +34,9 @@ use Rattle.together.specs.Stable.{between-same}
 use Rattle.together.specs.Facts.{between-taken, words-size, guards-free, reserved-laid}
 
 pub record Around (sh : Shape) (ws laid : List Word) (shown : List Entry) (t : Task) : Type 0 where
-  pub home : HomePlace sh (split sh (t .key) .home)
-  pub left : leftGap (occupied laid) (split sh (t .key) .home) ≡ t .left
-  pub right : rightGap (occupied laid) (split sh (t .key) .home) ≡ t .right
+  pub homePlace : HomePlace sh (split sh (t .key) .homePlace)
+  pub left : leftGap (occupiedPlaces laid) (split sh (t .key) .homePlace) ≡ t .left
+  pub right : rightGap (occupiedPlaces laid) (split sh (t .key) .homePlace) ≡ t .right
   pub taken : all isOccupied (between ws (t .left) (t .right)) ≡ true
   pub sound : soundRun sh (between ws (t .left) (t .right)) ≡ true
   pub entries : entriesBetween ws (t .left) (t .right) ≡ entriesBetween laid (t .left) (t .right)
@@ -54,10 +54,10 @@ pub around :
     Looked sh ws (taskAt ts i) →
     at ws (taskAt ts i .left) ≡ lockWord →
     at ws (taskAt ts i .right) ≡ lockWord → Around sh ws laid shown (taskAt ts i)
-unfolding homePlace places rightGuard cluster clusterEntries entriesBetween
+unfolding homePlaceOf places rightGuard cluster clusterEntries entriesBetween
 around {sh} {ws} {ts} {laid} {shown} low inv i lt from-7 to-8 k x left-held right-held =
     record {
-      home = home;
+      homePlace = homeAt;
       left = left-is;
       right = right-is;
       taken =
@@ -90,10 +90,10 @@ around {sh} {ws} {ts} {laid} {shown} low inv i lt from-7 to-8 k x left-held righ
     t = taskAt ts i
 
     h : ℕ
-    h = split sh (t .key) .home
+    h = split sh (t .key) .homePlace
 
-    home : HomePlace sh h
-    home = let s = split-in-shape sh (t .key) k in record { first = s .home-low; last = s .home-high }
+    homeAt : HomePlace sh h
+    homeAt = let s = split-in-shape sh (t .key) k in record { first = s .home-low; last = s .home-high }
 
     look : Surroundings sh laid shown (split sh (t .key))
     look =
@@ -102,36 +102,36 @@ around {sh} {ws} {ts} {laid} {shown} low inv i lt from-7 to-8 k x left-held righ
         (split sh (t .key))
         low
         (inv .plain .size)
-        home
+        homeAt
         (split-in-shape sh (t .key) k .remainder-low)
         (inv .plain .table)
 
-    taken-laid : (q : ℕ) → t .left < q → q < t .right → gaps.Taken (occupied laid) q
+    taken-laid : (q : ℕ) → t .left < q → q < t .right → gaps.Taken (occupiedPlaces laid) q
     taken-laid q a b = occupied-at laid q ∙ occupied-same laid ws q (sym (inv .places)) ∙ between-taken x q a b
 
-    free-laid : (q : ℕ) → at ws q ≡ lockWord → gaps.Free (occupied laid) q
+    free-laid : (q : ℕ) → at ws q ≡ lockWord → gaps.Free (occupiedPlaces laid) q
     free-laid q e =
         occupied-at laid q ∙ occupied-same laid ws q (sym (inv .places)) ∙ ap (λ (w : Word). w .occupied) e
 
-    origin : gaps.Free (occupied laid) 0
+    origin : gaps.Free (occupiedPlaces laid) 0
     origin = subst (λ (os : List Bool). gaps.Free os 0) (inv .places) (guards-free low inv .left)
 
-    left-is : leftGap (occupied laid) h ≡ t .left
+    left-is : leftGap (occupiedPlaces laid) h ≡ t .left
     left-is =
         gap-only
         gaps.left
-        (leftGap-is (occupied laid) h origin)
+        (leftGap-is (occupiedPlaces laid) h origin)
         (record {
           side = omega (arith, x .leftward .below);
           free = free-laid (t .left) left-held;
           run = λ q a b n. taken-laid q (omega (arith, n)) (omega (arith, x .above));
         })
 
-    right-is : rightGap (occupied laid) h ≡ t .right
+    right-is : rightGap (occupiedPlaces laid) h ≡ t .right
     right-is =
         gap-only
         gaps.right
-        (rightGap-is (occupied laid) h)
+        (rightGap-is (occupiedPlaces laid) h)
         (record {
           side = omega (arith, x .above);
           free = free-laid (t .right) right-held;

@@ -14,15 +14,15 @@ use borrow.Author.Tests.{eqb-true, eqb-false}
 use Rattle.rules.specs.declared.Shape.{Shape}
 use Rattle.rules.specs.declared.Task.{Task}
 use Rattle.rules.specs.Lists.{any}
-use Rattle.rules.specs.Word.{Word, zeroWord, lockWord, withRemainder, isVoid, isLock, isZero}
+use Rattle.rules.specs.Word.{Word, zeroWord, lockWord, filledWith, isVoid, isLock, isZero}
 use Rattle.rules.specs.Shape.{homes, remainders, keys, places, rightGuard}
 use Rattle.rules.specs.Entry.{Entry, split, sameEntry}
-use Rattle.rules.specs.Table.{at, occupied, leftGap, rightGap, between, virginPlaces, deal, entriesBetween}
+use Rattle.rules.specs.Table.{at, occupiedPlaces, leftGap, rightGap, between, virginPlaces, deal, entriesBetween}
 use Rattle.rules.specs.Table.{clusterEntries}
 use Rattle.rules.specs.Room.{place, full, roomFor}
 use Rattle.rules.specs.Lay.{holds, insert}
 use Rattle.rules.specs.Put.{addAt, enlargedFrom, Outcome, keeps, putIn, wordsAfter}
-use Rattle.rules.specs.Record.{homePlace, toPhase, withLeft, withAnswer}
+use Rattle.rules.specs.Record.{homePlaceOf, toPhase, withLeft, withAnswer}
 use Rattle.rules.specs.Give.{taskAt}
 use Rattle.rules.specs.Phase as phase
 use Rattle.rules.specs.Phase.{to, unsound, aloneWord, smaller, markOf, movesOn}
@@ -43,9 +43,9 @@ use Rattle.theory.specs.Moving.{Addable, add-end, begins-from, room-alone, add-
 use Rattle.theory.specs.Building.{State, after-put, added-state, place≢full}
 use Rattle.together.specs.Frames.{Within, at-set, at-other, at-unlocked, finish-before, finish-after, locks-at}
 use Rattle.together.specs.Frames.{occupied-same}
-use Rattle.together.specs.Invariant.{Occupied, Looked, Fills, Ready, Moving, Owns, by-left, by-right, Reserves}
+use Rattle.together.specs.Invariant.{Occupied, Looked, Fills, MayFill, Moving, Owns, by-left, by-right, Reserves}
 use Rattle.together.specs.Invariant.{Apart, Unfinished}
-use Rattle.together.specs.Invariant.{Inv, Stage, at-rest, moving, marking}
+use Rattle.together.specs.Invariant.{Inv, InPhase, at-rest, moving, marking}
 use Rattle.together.specs.Stable.{Frame, LetsAlone, stage-stable, finish-same, from-ge, upTo-le, fills-as}
 use Rattle.together.specs.Update.{Steps, same-or-not}
 use Rattle.together.specs.Facts.{in-order, words-size, reserved-laid}
@@ -60,7 +60,7 @@ use Rattle.together.specs.Walk.{Walked, commits, weight-low, step-by, in
 pub record Puts-at (sh : Shape) (laid : List Word) (shown : List Entry) (e : Entry) (p : ℕ) : Type 0 where
   pub is : after-put sh laid e ≡ addAt laid e p
   pub state : State sh (addAt laid e p) (insert e shown)
-  pub places-after : occupied (addAt laid e p) ≡ set (occupied laid) p true
+  pub places-after : occupiedPlaces (addAt laid e p) ≡ set (occupiedPlaces laid) p true
 
 place-same : {p q : ℕ} → place p ≡ place q → p ≡ q
 place-same e = cc
@@ -68,12 +68,12 @@ place-same e = cc
 pub puts-at :
     {sh : Shape} {laid : List Word} {shown : List Entry} (e : Entry) (p : ℕ) →
     remainders sh ≤ 4096 →
-    HomePlace sh (e .home) →
+    HomePlace sh (e .homePlace) →
     e .remainder < remainders sh →
     State sh laid shown →
-    holds e shown ≡ false → roomFor sh (occupied laid) (e .home) ≡ place p → Puts-at sh laid shown e p
-puts-at {sh} {laid} {shown} e p low home small s new room =
-    go (putIn sh laid e) refl (put-table sh e low (s .size) home small (s .table) (s .free))
+    holds e shown ≡ false → roomFor sh (occupiedPlaces laid) (e .homePlace) ≡ place p → Puts-at sh laid shown e p
+puts-at {sh} {laid} {shown} e p low homeAt small s new room =
+    go (putIn sh laid e) refl (put-table sh e low (s .size) homeAt small (s .table) (s .free))
   where
     go : (o : Outcome) → putIn sh laid e ≡ o → Puts sh laid shown e o → Puts-at sh laid shown e p
     go o is (found h) = absurd (true≢false (sym h ∙ new))
@@ -97,12 +97,12 @@ plain-unlocked {laid = laid} q s =
     sym (at-unlocked laid q) ∙ ap (λ (vs : List Word). at vs q) (unlocked-same laid (s .free))
 
 -- another key's entry is as much held as before
-pub held-other : (e f : Entry) (es : List Entry) → (e .home ≢ f .home) → holds f (insert e es) ≡ holds f es
+pub held-other : (e f : Entry) (es : List Entry) → (e .homePlace ≢ f .homePlace) → holds f (insert e es) ≡ holds f es
 held-other e f es apart =
     holds-insert f e es ∙ ap (λ (b : Bool). b || holds f es) (go (sameEntry f e) refl)
   where
     go : (b : Bool) → sameEntry f e ≡ b → sameEntry f e ≡ false
-    go true h = absurd (apart (ap (λ (x : Entry). x .home) (sym (same-eq f e h))))
+    go true h = absurd (apart (ap (λ (x : Entry). x .homePlace) (sym (same-eq f e h))))
     go false h = h
 
 pub held-now : (e : Entry) (es : List Entry) → holds e (insert e es) ≡ true
@@ -123,7 +123,7 @@ other-end gaps.right l r lt e = omega arith
 -- a task in phase 8 has looked both ways
 reserved-looked :
     {sh : Shape} {ws laid : List Word} {shown : List Entry} (u : Task) →
-    u .phase ≡ 8 → Stage sh ws laid shown u → Looked sh ws u
+    u .phase ≡ 8 → InPhase sh ws laid shown u → Looked sh ws u
 reserved-looked u at-8 s = walk.free-end (omega arith) (omega arith) s .1
 
 -- ---- phase 8
@@ -131,7 +131,7 @@ module _ {sh : Shape} {ws : List Word} {ts : List Task} {laid : List Word} {show
     (low : remainders sh ≤ 4096) (inv : Inv sh ws ts laid shown) (i : ℕ) (lt : i < length ts)
     (p : taskAt ts i .phase ≡ 8) (k : taskAt ts i .key < keys sh) (x : Looked sh ws (taskAt ts i))
     (left-held : at ws (taskAt ts i .left) ≡ lockWord) (right-held : at ws (taskAt ts i .right) ≡ lockWord)
-    (y : Ready sh laid shown (taskAt ts i))
+    (y : MayFill sh laid shown (taskAt ts i))
   where
     abbrev t : Task
     t = taskAt ts i
@@ -148,30 +148,30 @@ module _ {sh : Shape} {ws : List Word} {ts : List Task} {laid : List Word} {show
     small-key : e .remainder < remainders sh
     small-key = split-in-shape sh (t .key) k .remainder-low
 
-    home-taken : at laid (e .home) .occupied ≡ true
-    unfolding homePlace
+    home-taken : at laid (e .homePlace) .occupied ≡ true
+    unfolding homePlaceOf
     home-taken =
-        occupied-same laid ws (e .home) (sym (inv .places))
-        ∙ x .taken (e .home) (omega arith) (omega (arith, x .above))
+        occupied-same laid ws (e .homePlace) (sym (inv .places))
+        ∙ x .taken (e .homePlace) (omega arith) (omega (arith, x .above))
 
     -- the place that the rule names is the hand
-    room-is : roomFor sh (occupied laid) (e .home) ≡ place (t .hand)
+    room-is : roomFor sh (occupiedPlaces laid) (e .homePlace) ≡ place (t .hand)
     room-is = go (y .side) (y .fills) (y .room) ∙ ap place (sym (y .hand))
       where
         go :
             (side : Side) →
             Fills side t →
             HomePlace sh (end side (t .left) (t .right)) →
-            roomFor sh (occupied laid) (e .home) ≡ place (end side (t .left) (t .right))
+            roomFor sh (occupiedPlaces laid) (e .homePlace) ≡ place (end side (t .left) (t .right))
         go gaps.left away room =
-            room-left sh (occupied laid) (e .home)
-            ∙ chosen-only (gaps.first (occupied-at laid (e .home) ∙ home-taken) (λ z. away (sym (see .left) ∙ z)))
+            room-left sh (occupiedPlaces laid) (e .homePlace)
+            ∙ chosen-only (gaps.first (occupied-at laid (e .homePlace) ∙ home-taken) (λ z. away (sym (see .left) ∙ z)))
             ∙ ap place (see .left)
         go gaps.right at-guard room =
-            room-left sh (occupied laid) (e .home)
+            room-left sh (occupiedPlaces laid) (e .homePlace)
             ∙ chosen-only
             (gaps.second
-            (occupied-at laid (e .home) ∙ home-taken)
+            (occupied-at laid (e .homePlace) ∙ home-taken)
             (see .left ∙ at-guard)
             (λ z. not-guard (sym (see .right) ∙ z)))
             ∙ ap place (see .right)
@@ -180,60 +180,60 @@ module _ {sh : Shape} {ws : List Word} {ts : List Task} {laid : List Word} {show
             not-guard z = guard-beyond sh (t .right) (room .last) z
 
     put-in : Puts-at sh laid shown e (t .hand)
-    put-in = puts-at e (t .hand) low (see .home) small-key (inv .plain) (y .new) room-is
+    put-in = puts-at e (t .hand) low (see .homePlace) small-key (inv .plain) (y .new) room-is
 
     abbrev laid′ : List Word
     laid′ = addAt laid e (t .hand)
 
     look : Surroundings sh laid shown e
-    look = surroundings sh e low (inv .plain .size) (see .home) small-key (inv .plain .table)
+    look = surroundings sh e low (inv .plain .size) (see .homePlace) small-key (inv .plain .table)
 
     addable : Addable sh laid e
     addable =
         record {
           low = low;
           remainder = small-key;
-          home = see .home;
+          homePlace = see .homePlace;
           size = inv .plain .size;
           sound = look .sound;
-          free = around-free laid (e .home) (inv .plain .free);
+          free = around-free laid (e .homePlace) (inv .plain .free);
           new = look .same ∙ y .new;
         }
 
     -- the table laid after the put is the fill and the moves on the table laid before
-    laid-moves : laid′ ≡ finish (fillAt (e .remainder) laid (t .hand)) (t .hand) (t .goal) (t .mark) (e .home)
+    laid-moves : laid′ ≡ finish (fillAt (e .remainder) laid (t .hand)) (t .hand) (t .goal) (t .mark) (e .homePlace)
     unfolding clusterEntries
     laid-moves =
         ap (addAt laid e) (y .hand ∙ sym gap-is)
         ∙ add-end addable home-taken (y .side)
-        ∙ (λ j. finish (fillAt (e .remainder) laid (hand-is j)) (hand-is j) (goal-is j) (mark-is j) (e .home))
+        ∙ (λ j. finish (fillAt (e .remainder) laid (hand-is j)) (hand-is j) (goal-is j) (mark-is j) (e .homePlace))
       where
         gap-is :
-            end (y .side) (leftGap (occupied laid) (e .home)) (rightGap (occupied laid) (e .home))
+            end (y .side) (leftGap (occupiedPlaces laid) (e .homePlace)) (rightGap (occupiedPlaces laid) (e .homePlace))
             ≡ end (y .side) (t .left) (t .right)
         gap-is = ap₂ (end (y .side)) (see .left) (see .right)
 
-        hand-is : end (y .side) (leftGap (occupied laid) (e .home)) (rightGap (occupied laid) (e .home)) ≡ t .hand
+        hand-is : end (y .side) (leftGap (occupiedPlaces laid) (e .homePlace)) (rightGap (occupiedPlaces laid) (e .homePlace)) ≡ t .hand
         hand-is = gap-is ∙ sym (y .hand)
 
         goal-is :
             enlargedFrom
             laid
-            (e .home)
-            (end (y .side) (leftGap (occupied laid) (e .home)) (rightGap (occupied laid) (e .home)))
-            + smaller e (entriesBetween laid (leftGap (occupied laid) (e .home)) (rightGap (occupied laid) (e .home)))
+            (e .homePlace)
+            (end (y .side) (leftGap (occupiedPlaces laid) (e .homePlace)) (rightGap (occupiedPlaces laid) (e .homePlace)))
+            + smaller e (entriesBetween laid (leftGap (occupiedPlaces laid) (e .homePlace)) (rightGap (occupiedPlaces laid) (e .homePlace)))
             ≡ t .goal
         goal-is =
             ap
             (λ (n : ℕ).
             n
-            + smaller e (entriesBetween laid (leftGap (occupied laid) (e .home)) (rightGap (occupied laid) (e .home))))
+            + smaller e (entriesBetween laid (leftGap (occupiedPlaces laid) (e .homePlace)) (rightGap (occupiedPlaces laid) (e .homePlace))))
             (begins-from addable home-taken (y .side))
             ∙ ap₂ (λ (l r : ℕ). from (y .side) l + smaller e (entriesBetween laid l r)) (see .left) (see .right)
             ∙ sym (y .goal)
 
         mark-is :
-            markOf e (entriesBetween laid (leftGap (occupied laid) (e .home)) (rightGap (occupied laid) (e .home)))
+            markOf e (entriesBetween laid (leftGap (occupiedPlaces laid) (e .homePlace)) (rightGap (occupiedPlaces laid) (e .homePlace)))
             ≡ t .mark
         mark-is = ap₂ (λ (l r : ℕ). markOf e (entriesBetween laid l r)) (see .left) (see .right) ∙ sym (y .mark)
 
@@ -255,8 +255,8 @@ module _ {sh : Shape} {ws : List Word} {ts : List Task} {laid : List Word} {show
       omega (arith, named .goal-high, upTo-le (y .side) (t .right)),
     )
 
-    home-in : Within (t .left) (t .right) (e .home)
-    unfolding homePlace
+    home-in : Within (t .left) (t .right) (e .homePlace)
+    unfolding homePlaceOf
     home-in = (omega (arith, x .leftward .below), omega (arith, x .above))
 
     closes : t .mark ≡ 1 → t .left < t .goal
@@ -289,20 +289,20 @@ module _ {sh : Shape} {ws : List Word} {ts : List Task} {laid : List Word} {show
         go gaps.left = right-held
         go gaps.right = left-held
 
-    filled-here : at filled (t .hand) ≡ withRemainder (e .remainder) (at ws (t .hand))
+    filled-here : at filled (t .hand) ≡ filledWith (e .remainder) (at ws (t .hand))
     unfolding fillAt
-    filled-here = at-set ws (t .hand) (withRemainder (e .remainder) (at ws (t .hand))) hand-inside
+    filled-here = at-set ws (t .hand) (filledWith (e .remainder) (at ws (t .hand))) hand-inside
 
     filled-other : (q : ℕ) → q ≢ t .hand → at filled q ≡ at ws q
     unfolding fillAt
-    filled-other q n = at-other ws (t .hand) q (withRemainder (e .remainder) (at ws (t .hand))) n
+    filled-other q n = at-other ws (t .hand) q (filledWith (e .remainder) (at ws (t .hand))) n
 
     filled-locks : (q : ℕ) → at filled q .lock ≡ at ws q .lock
     filled-locks q = locks-at filled ws q (fillAt-locks (e .remainder) ws (t .hand))
 
     filled-size : length filled ≡ places sh
     unfolding fillAt
-    filled-size = length-set ws (t .hand) (withRemainder (e .remainder) (at ws (t .hand))) ∙ words-size low inv
+    filled-size = length-set ws (t .hand) (filledWith (e .remainder) (at ws (t .hand))) ∙ words-size low inv
 
     filled-grows : (q : ℕ) → Occupied ws q → Occupied filled q
     filled-grows q taken = go (same-or-not (t .hand) q)
@@ -338,24 +338,24 @@ module _ {sh : Shape} {ws : List Word} {ts : List Task} {laid : List Word} {show
         go (inl same) =
             ap (λ (r : ℕ). unlock (at filled r)) same
             ∙ ap unlock filled-here
-            ∙ ap (withRemainder (e .remainder)) (alike (t .hand) hand-in)
+            ∙ ap (filledWith (e .remainder)) (alike (t .hand) hand-in)
             ∙ ap
             unlock
             (sym
             (at-set
             laid
             (t .hand)
-            (withRemainder (e .remainder) (at laid (t .hand)))
+            (filledWith (e .remainder) (at laid (t .hand)))
             (omega (arith, laid-long, hand-inside))))
             ∙ ap (λ (r : ℕ). unlock (at laid-filled r)) (sym same)
         go (inr n) =
             ap unlock (filled-other q n)
             ∙ alike q near
-            ∙ ap unlock (sym (at-other laid (t .hand) q (withRemainder (e .remainder) (at laid (t .hand))) n))
+            ∙ ap unlock (sym (at-other laid (t .hand) q (filledWith (e .remainder) (at laid (t .hand))) n))
 
     laid-filled-size : length laid-filled ≡ places sh
     unfolding fillAt
-    laid-filled-size = length-set laid (t .hand) (withRemainder (e .remainder) (at laid (t .hand))) ∙ inv .plain .size
+    laid-filled-size = length-set laid (t .hand) (filledWith (e .remainder) (at laid (t .hand))) ∙ inv .plain .size
 
     looked-filled : Looked sh filled t
     looked-filled =
@@ -371,8 +371,8 @@ module _ {sh : Shape} {ws : List Word} {ts : List Task} {laid : List Word} {show
     will-finish :
         (q : ℕ) →
         Within (t .left) (t .right) q →
-        unlock (at (finish filled (t .hand) (t .goal) (t .mark) (homePlace sh t)) q) ≡ at laid′ q
-    unfolding homePlace
+        unlock (at (finish filled (t .hand) (t .goal) (t .mark) (homePlaceOf sh t)) q) ≡ at laid′ q
+    unfolding homePlaceOf
     will-finish q near =
         finish-same
         sh
@@ -406,7 +406,7 @@ module _ {sh : Shape} {ws : List Word} {ts : List Task} {laid : List Word} {show
             laid
             (t .hand)
             q
-            (withRemainder (e .remainder) (at laid (t .hand)))
+            (filledWith (e .remainder) (at laid (t .hand)))
             (λ (same : q ≡ t .hand). far (subst (Within (t .left) (t .right)) (sym same) hand-in))
 
         long : t .right < length laid-filled
@@ -415,7 +415,7 @@ module _ {sh : Shape} {ws : List Word} {ts : List Task} {laid : List Word} {show
         go :
             (t .left ≤ q) ⊎ (q < t .left) →
             (q ≤ t .right) ⊎ (t .right < q) →
-            at (finish laid-filled (t .hand) (t .goal) (t .mark) (e .home)) q ≡ at laid-filled q
+            at (finish laid-filled (t .hand) (t .goal) (t .mark) (e .homePlace)) q ≡ at laid-filled q
         go (inl a) (inl b) = absurd (far (a, b))
         go (inr a) b =
             finish-before
@@ -427,7 +427,7 @@ module _ {sh : Shape} {ws : List Word} {ts : List Task} {laid : List Word} {show
             (t .hand)
             (t .goal)
             (t .mark)
-            (e .home)
+            (e .homePlace)
             hand-in
             goal-in
             home-in
@@ -444,7 +444,7 @@ module _ {sh : Shape} {ws : List Word} {ts : List Task} {laid : List Word} {show
             (t .hand)
             (t .goal)
             (t .mark)
-            (e .home)
+            (e .homePlace)
             hand-in
             goal-in
             home-in
@@ -453,7 +453,7 @@ module _ {sh : Shape} {ws : List Word} {ts : List Task} {laid : List Word} {show
             b
 
     filling : (n : ℕ) → Moving sh filled laid′ (insert e shown) (toPhase n t)
-    unfolding homePlace
+    unfolding homePlaceOf
     filling n =
         record {
           side = y .side;
@@ -509,17 +509,17 @@ module _ {sh : Shape} {ws : List Word} {ts : List Task} {laid : List Word} {show
 
     -- another task that has read has another key: its home lies in its own stretch
     still-new :
-        (u : Task) → Apart t u → Stage sh ws laid shown u → u .phase ≡ 8 →
+        (u : Task) → Apart t u → InPhase sh ws laid shown u → u .phase ≡ 8 →
         holds (split sh (u .key)) (insert e shown) ≡ holds (split sh (u .key)) shown
-    unfolding homePlace
+    unfolding homePlaceOf
     still-new u a s at-8 =
         held-other e (split sh (u .key)) shown
-        (λ (same : e .home ≡ split sh (u .key) .home).
+        (λ (same : e .homePlace ≡ split sh (u .key) .homePlace).
         let z = reserved-looked u at-8 s in
         a .stretches
         (record { from-7 = omega arith; to-10 = omega arith })
         (record { from-7 = omega arith; to-10 = omega arith })
-        (e .home)
+        (e .homePlace)
         home-in
         (omega (arith, z .leftward .below), omega (arith, z .above)))
 
@@ -527,7 +527,7 @@ module _ {sh : Shape} {ws : List Word} {ts : List Task} {laid : List Word} {show
         (n : ℕ) →
         9 ≤ n →
         n ≤ 10 →
-        movesOn t ≡ toPhase n t → Stage sh filled laid′ (insert e shown) (toPhase n t) → Walked sh ws ts laid shown i
+        movesOn t ≡ toPhase n t → InPhase sh filled laid′ (insert e shown) (toPhase n t) → Walked sh ws ts laid shown i
     unfolding phase.fillHand fillAt isLock isVoid
     fill-to n a b phase-is stage =
         record {
@@ -623,8 +623,8 @@ home-below : (sh : Shape) (h : ℕ) → h ≤ homes sh → h ≤ rightGuard sh
 unfolding rightGuard
 home-below sh h le = omega arith
 
-occupied-set : (ws : List Word) (p : ℕ) (w : Word) → occupied (set ws p w) ≡ set (occupied ws) p (w .occupied)
-unfolding occupied
+occupied-set : (ws : List Word) (p : ℕ) (w : Word) → occupiedPlaces (set ws p w) ≡ set (occupiedPlaces ws) p (w .occupied)
+unfolding occupiedPlaces
 occupied-set [] p w = refl
 occupied-set (v ∷ ws) zero w = refl
 occupied-set (v ∷ ws) (suc p) w = ap (λ (os : List Bool). v .occupied ∷ os) (occupied-set ws p w)
@@ -632,41 +632,41 @@ occupied-set (v ∷ ws) (suc p) w = ap (λ (os : List Bool). v .occupied ∷ os)
 -- an unoccupied home has no cluster, and so no keys
 no-keys-there :
     (sh : Shape) (laid : List Word) (e : Entry) {shown : List Entry} →
-    State sh laid shown → at laid (e .home) .occupied ≡ false → holds e (clusterEntries laid (e .home)) ≡ false
+    State sh laid shown → at laid (e .homePlace) .occupied ≡ false → holds e (clusterEntries laid (e .homePlace)) ≡ false
 unfolding holds any clusterEntries entriesBetween virginPlaces deal
 no-keys-there sh laid e s free =
     ap₂ (λ (l r : ℕ). holds e (entriesBetween laid l r)) own-left own-right
-    ∙ ap (λ (vs : List Word). holds e (deal (virginPlaces (suc (e .home)) vs) vs)) nothing
+    ∙ ap (λ (vs : List Word). holds e (deal (virginPlaces (suc (e .homePlace)) vs) vs)) nothing
   where
-    free-place : gaps.Free (occupied laid) (e .home)
-    free-place = occupied-at laid (e .home) ∙ free
+    free-place : gaps.Free (occupiedPlaces laid) (e .homePlace)
+    free-place = occupied-at laid (e .homePlace) ∙ free
 
-    own-left : leftGap (occupied laid) (e .home) ≡ e .home
+    own-left : leftGap (occupiedPlaces laid) (e .homePlace) ≡ e .homePlace
     own-left =
         gap-only
         gaps.left
-        (leftGap-is (occupied laid) (e .home) (table-guarded sh (s .size) (s .table) .left))
+        (leftGap-is (occupiedPlaces laid) (e .homePlace) (table-guarded sh (s .size) (s .table) .left))
         (record { side = le-refl _; free = free-place; run = λ q a b n. absurd (n (omega arith)) })
 
-    own-right : rightGap (occupied laid) (e .home) ≡ e .home
+    own-right : rightGap (occupiedPlaces laid) (e .homePlace) ≡ e .homePlace
     own-right =
         gap-only
         gaps.right
-        (rightGap-is (occupied laid) (e .home))
+        (rightGap-is (occupiedPlaces laid) (e .homePlace))
         (record { side = le-refl _; free = free-place; run = λ q a b n. absurd (n (omega arith)) })
 
-    nothing : between laid (e .home) (e .home) ≡ []
+    nothing : between laid (e .homePlace) (e .homePlace) ≡ []
     nothing =
         drop-of-length-le
-        (take (e .home) laid)
-        {i = suc (e .home)}
-        (omega (arith, length-take (e .home) laid))
+        (take (e .homePlace) laid)
+        {i = suc (e .homePlace)}
+        (omega (arith, length-take (e .homePlace) laid))
 
 -- ---- phase 1, on an empty home
 module _ {sh : Shape} {ws : List Word} {ts : List Task} {laid : List Word} {shown : List Entry}
     (low : remainders sh ≤ 4096) (inv : Inv sh ws ts laid shown) (i : ℕ) (lt : i < length ts)
     (p : taskAt ts i .phase ≡ 1) (k : taskAt ts i .key < keys sh)
-    (empty : at ws (split sh (taskAt ts i .key) .home) ≡ zeroWord)
+    (empty : at ws (split sh (taskAt ts i .key) .homePlace) ≡ zeroWord)
   where
     abbrev t₁ : Task
     t₁ = taskAt ts i
@@ -674,14 +674,14 @@ module _ {sh : Shape} {ws : List Word} {ts : List Task} {laid : List Word} {show
     abbrev e₁ : Entry
     e₁ = split sh (t₁ .key)
 
-    home₁ : HomePlace sh (e₁ .home)
+    home₁ : HomePlace sh (e₁ .homePlace)
     home₁ = let s = split-in-shape sh (t₁ .key) k in record { first = s .home-low; last = s .home-high }
 
     small₁ : e₁ .remainder < remainders sh
     small₁ = split-in-shape sh (t₁ .key) k .remainder-low
 
-    laid-empty : at laid (e₁ .home) .occupied ≡ false
-    laid-empty = occupied-same laid ws (e₁ .home) (sym (inv .places)) ∙ ap (λ (w : Word). w .occupied) empty
+    laid-empty : at laid (e₁ .homePlace) .occupied ≡ false
+    laid-empty = occupied-same laid ws (e₁ .homePlace) (sym (inv .places)) ∙ ap (λ (w : Word). w .occupied) empty
 
     look₁ : Surroundings sh laid shown e₁
     look₁ = surroundings sh e₁ low (inv .plain .size) home₁ small₁ (inv .plain .table)
@@ -695,41 +695,41 @@ module _ {sh : Shape} {ws : List Word} {ts : List Task} {laid : List Word} {show
         record {
           low = low;
           remainder = small₁;
-          home = home₁;
+          homePlace = home₁;
           size = inv .plain .size;
           sound = look₁ .sound;
-          free = around-free laid (e₁ .home) (inv .plain .free);
+          free = around-free laid (e₁ .homePlace) (inv .plain .free);
           new = look₁ .same ∙ new₁;
         }
 
-    put₁ : Puts-at sh laid shown e₁ (e₁ .home)
-    put₁ = puts-at e₁ (e₁ .home) low home₁ small₁ (inv .plain) new₁ (room-alone addable₁ laid-empty)
+    put₁ : Puts-at sh laid shown e₁ (e₁ .homePlace)
+    put₁ = puts-at e₁ (e₁ .homePlace) low home₁ small₁ (inv .plain) new₁ (room-alone addable₁ laid-empty)
 
     abbrev alone : Word
     alone = aloneWord (e₁ .remainder)
 
-    laid-is : addAt laid e₁ (e₁ .home) ≡ set laid (e₁ .home) alone
+    laid-is : addAt laid e₁ (e₁ .homePlace) ≡ set laid (e₁ .homePlace) alone
     laid-is = add-alone addable₁ laid-empty
 
-    inside₁ : e₁ .home < length ws
-    inside₁ = in-table low inv i lt (home-below sh (e₁ .home) (home₁ .last))
+    inside₁ : e₁ .homePlace < length ws
+    inside₁ = in-table low inv i lt (home-below sh (e₁ .homePlace) (home₁ .last))
 
-    laid-inside₁ : e₁ .home < length laid
+    laid-inside₁ : e₁ .homePlace < length laid
     laid-inside₁ = omega (arith, inside₁, words-size low inv, inv .plain .size)
 
     abbrev grown : List Word
-    grown = set ws (e₁ .home) alone
+    grown = set ws (e₁ .homePlace) alone
 
-    grown-here : at grown (e₁ .home) ≡ alone
-    grown-here = at-set ws (e₁ .home) alone inside₁
+    grown-here : at grown (e₁ .homePlace) ≡ alone
+    grown-here = at-set ws (e₁ .homePlace) alone inside₁
 
-    grown-other : (q : ℕ) → q ≢ e₁ .home → at grown q ≡ at ws q
-    grown-other q n = at-other ws (e₁ .home) q alone n
+    grown-other : (q : ℕ) → q ≢ e₁ .homePlace → at grown q ≡ at ws q
+    grown-other q n = at-other ws (e₁ .homePlace) q alone n
 
     grown-locks : (q : ℕ) → at grown q .lock ≡ at ws q .lock
-    grown-locks q = go (same-or-not (e₁ .home) q)
+    grown-locks q = go (same-or-not (e₁ .homePlace) q)
       where
-        go : (q ≡ e₁ .home) ⊎ (q ≢ e₁ .home) → at grown q .lock ≡ at ws q .lock
+        go : (q ≡ e₁ .homePlace) ⊎ (q ≢ e₁ .homePlace) → at grown q .lock ≡ at ws q .lock
         go (inl same) =
             ap (λ (r : ℕ). at grown r .lock) same
             ∙ ap (λ (w : Word). w .lock) (grown-here)
@@ -737,53 +737,53 @@ module _ {sh : Shape} {ws : List Word} {ts : List Task} {laid : List Word} {show
             ∙ ap (λ (r : ℕ). at ws r .lock) (sym same)
         go (inr n) = ap (λ (w : Word). w .lock) (grown-other q n)
 
-    home-unowned : (u : Task) → Stage sh ws laid shown u → Owns u (e₁ .home) → ⊥
-    home-unowned u s o = true≢false (sym (owned-locked (e₁ .home) s o) ∙ ap (λ (w : Word). w .lock) empty)
+    home-unowned : (u : Task) → InPhase sh ws laid shown u → Owns u (e₁ .homePlace) → ⊥
+    home-unowned u s o = true≢false (sym (owned-locked (e₁ .homePlace) s o) ∙ ap (λ (w : Word). w .lock) empty)
 
-    grown-frame : Frame sh ws laid shown grown (addAt laid e₁ (e₁ .home)) (insert e₁ shown) (λ q. q ≡ e₁ .home)
+    grown-frame : Frame sh ws laid shown grown (addAt laid e₁ (e₁ .homePlace)) (insert e₁ shown) (λ q. q ≡ e₁ .homePlace)
     grown-frame =
         record {
           size = words-size low inv;
-          size′ = length-set ws (e₁ .home) alone ∙ words-size low inv;
+          size′ = length-set ws (e₁ .homePlace) alone ∙ words-size low inv;
           laid-size = inv .plain .size;
           laid-size′ = put₁ .state .size;
           words = λ q n. ap unlock (grown-other q n);
-          grows = λ q taken. grows q taken (same-or-not (e₁ .home) q);
-          laid-words = λ q n. ap (λ (vs : List Word). at vs q) laid-is ∙ at-other laid (e₁ .home) q alone n;
+          grows = λ q taken. grows q taken (same-or-not (e₁ .homePlace) q);
+          laid-words = λ q n. ap (λ (vs : List Word). at vs q) laid-is ∙ at-other laid (e₁ .homePlace) q alone n;
           keeps = λ f h. held-still e₁ f shown h;
         }
       where
-        grows : (q : ℕ) → Occupied ws q → (q ≡ e₁ .home) ⊎ (q ≢ e₁ .home) → Occupied grown q
+        grows : (q : ℕ) → Occupied ws q → (q ≡ e₁ .homePlace) ⊎ (q ≢ e₁ .homePlace) → Occupied grown q
         grows q taken (inl same) = ap (λ (r : ℕ). at grown r .occupied) same ∙ ap (λ (w : Word). w .occupied) grown-here
         grows q taken (inr n) = ap (λ (w : Word). w .occupied) (grown-other q n) ∙ taken
 
-    grown-alone : (u : Task) → Apart t₁ u → Stage sh ws laid shown u → LetsAlone ws grown (λ q. q ≡ e₁ .home) u
+    grown-alone : (u : Task) → Apart t₁ u → InPhase sh ws laid shown u → LetsAlone ws grown (λ q. q ≡ e₁ .homePlace) u
     grown-alone u a s =
         record {
           locks = λ q o. grown-locks q;
           ends = λ q o free same. home-unowned u s (subst (Owns u) same o);
           stretch = λ r q near same.
               home-unowned u s
-              (own-end u (e₁ .home) (r .from-7) (r .to-10) (walk.free-end (r .from-7) (r .to-10) s .1)
+              (own-end u (e₁ .homePlace) (r .from-7) (r .to-10) (walk.free-end (r .from-7) (r .to-10) s .1)
               (subst (Within (u .left) (u .right)) same near)
               (ap (λ (w : Word). w .occupied) empty));
         }
 
     fresh₁ :
-        (u : Task) → Stage sh ws laid shown u → u .phase ≡ 8 →
+        (u : Task) → InPhase sh ws laid shown u → u .phase ≡ 8 →
         holds (split sh (u .key)) (insert e₁ shown) ≡ holds (split sh (u .key)) shown
-    unfolding homePlace
+    unfolding homePlaceOf
     fresh₁ u s at-8 =
         held-other e₁ (split sh (u .key)) shown
-        (λ (same : e₁ .home ≡ split sh (u .key) .home).
+        (λ (same : e₁ .homePlace ≡ split sh (u .key) .homePlace).
         let z = reserved-looked u at-8 s in
         true≢false
-        (sym (z .taken (split sh (u .key) .home) (omega arith) (omega (arith, z .above)))
+        (sym (z .taken (split sh (u .key) .homePlace) (omega arith) (omega (arith, z .above)))
         ∙ ap (λ (r : ℕ). at ws r .occupied) (sym same)
         ∙ ap (λ (w : Word). w .occupied) empty))
 
     pub walk-alone : Walked sh ws ts laid shown i
-    unfolding phase.home homePlace isZero isVoid
+    unfolding phase.home homePlaceOf isZero isVoid
     walk-alone =
         record {
           next = next;
@@ -800,7 +800,7 @@ module _ {sh : Shape} {ws : List Word} {ts : List Task} {laid : List Word} {show
               (cond
               (isZero w)
               (to next grown)
-              (cond (w .occupied) (to (toPhase 2 (withLeft (homePlace sh t₁ - 1) t₁)) ws) unsound)))
+              (cond (w .occupied) (to (toPhase 2 (withLeft (homePlaceOf sh t₁ - 1) t₁)) ws) unsound)))
               empty);
           shows =
               subst
@@ -809,12 +809,12 @@ module _ {sh : Shape} {ws : List Word} {ts : List Task} {laid : List Word} {show
               (record {
                 plain = put₁ .state;
                 places = grown-places ∙ sym (put₁ .places-after);
-                small = λ q. small q (same-or-not (e₁ .home) q);
+                small = λ q. small q (same-or-not (e₁ .homePlace) q);
                 stage = at-rest (inr refl);
                 others = λ u c s. stage-stable grown-frame u (grown-alone u c s) (fresh₁ u s) s;
                 apart = λ u c s. apart-less back (λ (r : Reserves next). absurd (omega (arith, r .to-10))) c;
                 owner = λ q is-locked. inr (sym (grown-locks q) ∙ is-locked, λ o. absurd (free-hands q o));
-                settled = λ q own others. settle q others (same-or-not (e₁ .home) q);
+                settled = λ q own others. settle q others (same-or-not (e₁ .homePlace) q);
               });
           same-key = refl;
           ends = λ c. says-shown (inr refl) (held-now e₁ shown);
@@ -834,10 +834,10 @@ module _ {sh : Shape} {ws : List Word} {ts : List Task} {laid : List Word} {show
         free-hands q (by-left c d f) = omega arith
         free-hands q (by-right c d f) = omega arith
 
-        grown-places : occupied grown ≡ set (occupied laid) (e₁ .home) true
-        grown-places = occupied-set ws (e₁ .home) alone ∙ ap (λ (os : List Bool). set os (e₁ .home) true) (inv .places)
+        grown-places : occupiedPlaces grown ≡ set (occupiedPlaces laid) (e₁ .homePlace) true
+        grown-places = occupied-set ws (e₁ .homePlace) alone ∙ ap (λ (os : List Bool). set os (e₁ .homePlace) true) (inv .places)
 
-        small : (q : ℕ) → (q ≡ e₁ .home) ⊎ (q ≢ e₁ .home) → at grown q .remainder < 4096
+        small : (q : ℕ) → (q ≡ e₁ .homePlace) ⊎ (q ≢ e₁ .homePlace) → at grown q .remainder < 4096
         small q (inl same) =
             subst
             (λ (n : ℕ). n < 4096)
@@ -849,11 +849,11 @@ module _ {sh : Shape} {ws : List Word} {ts : List Task} {laid : List Word} {show
         settle :
             (q : ℕ) →
             ((j : ℕ) → j < length ts → j ≢ i → Unfinished (taskAt ts j) q → ⊥) →
-            (q ≡ e₁ .home) ⊎ (q ≢ e₁ .home) → unlock (at grown q) ≡ at (addAt laid e₁ (e₁ .home)) q
+            (q ≡ e₁ .homePlace) ⊎ (q ≢ e₁ .homePlace) → unlock (at grown q) ≡ at (addAt laid e₁ (e₁ .homePlace)) q
         settle q others (inl same) =
             ap (λ (r : ℕ). unlock (at grown r)) same
             ∙ ap unlock grown-here
-            ∙ sym (ap₂ at laid-is same ∙ at-set laid (e₁ .home) alone laid-inside₁)
+            ∙ sym (ap₂ at laid-is same ∙ at-set laid (e₁ .homePlace) alone laid-inside₁)
         settle q others (inr n) =
             ap unlock (grown-other q n)
             ∙ inv .settled q (λ j l u. none j l u (same-or-not i j))

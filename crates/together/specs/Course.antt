@@ -13,9 +13,9 @@ use Rattle.rules.specs.Word.{Word, lockWord, isZero}
 use Rattle.rules.specs.Shape.{remainders, keys}
 use Rattle.rules.specs.Entry.{Entry}
 use Rattle.rules.specs.Table.{at}
-use Rattle.rules.specs.Record.{homePlace}
+use Rattle.rules.specs.Record.{homePlaceOf}
 use Rattle.rules.specs.Give.{taskAt}
-use Rattle.together.specs.Invariant.{Looked, LookedLeft, Inv, Stage, at-rest, at-home, looks-left, looks-right}
+use Rattle.together.specs.Invariant.{Looked, LookedLeft, Inv, InPhase, at-rest, at-home, looks-left, looks-right}
 use Rattle.together.specs.Invariant.{owns-left}
 use Rattle.together.specs.Invariant.{owns-both, has-read, moving, marking, frees-left, frees-right}
 use Rattle.together.specs.Stable.{word-of}
@@ -32,18 +32,18 @@ module _ {sh : Shape} {ws : List Word} {ts : List Task} {laid : List Word} {show
   where
     -- phase 1: locked, empty or occupied; nothing else can stand there
     walk-1 : taskAt ts i .phase ≡ 1 → taskAt ts i .key < keys sh → Walked sh ws ts laid shown i
-    unfolding homePlace
+    unfolding homePlaceOf
     walk-1 p k = go (w .lock) (w .occupied) refl refl
       where
         w : Word
-        w = at ws (homePlace sh (taskAt ts i))
+        w = at ws (homePlaceOf sh (taskAt ts i))
 
         go : (a b : Bool) → w .lock ≡ a → w .occupied ≡ b → Walked sh ws ts laid shown i
         go true b locked taken = walk-stay low inv i lt p k locked
         go false true locked taken = walk-home low inv i lt p k locked taken
         go false false locked taken =
             walk-alone low inv i lt p k
-            (word-of (free-void low inv (homePlace sh (taskAt ts i)) taken) locked)
+            (word-of (free-void low inv (homePlaceOf sh (taskAt ts i)) taken) locked)
 
     walk-2 :
         taskAt ts i .phase ≡ 2 → taskAt ts i .key < keys sh → LookedLeft sh ws (taskAt ts i) →
@@ -84,7 +84,7 @@ module _ {sh : Shape} {ws : List Word} {ts : List Task} {laid : List Word} {show
     pub walk : 1 ≤ taskAt ts i .phase → taskAt ts i .phase ≤ 12 → Walked sh ws ts laid shown i
     walk a b = by-stage (inv .stage i lt)
       where
-        by-stage : Stage sh ws laid shown (taskAt ts i) → Walked sh ws ts laid shown i
+        by-stage : InPhase sh ws laid shown (taskAt ts i) → Walked sh ws ts laid shown i
         by-stage (at-rest (inl e)) = absurd (omega arith)
         by-stage (at-rest (inr e)) = absurd (omega arith)
         by-stage (at-home p k) = walk-1 p k

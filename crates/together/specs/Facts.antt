@@ -15,9 +15,9 @@ use Rattle.rules.specs.declared.Task.{Task}
 use Rattle.rules.specs.Word.{Word, zeroWord, lockWord, isVoid}
 use Rattle.rules.specs.Shape.{homes, remainders, keys, places, rightGuard}
 use Rattle.rules.specs.Entry.{Entry}
-use Rattle.rules.specs.Table.{at, occupied, guardsVoid}
+use Rattle.rules.specs.Table.{at, occupiedPlaces, guardsVoid}
 use Rattle.rules.specs.Lay.{lay}
-use Rattle.rules.specs.Record.{homePlace, within, implies, busy, atRest, fitsHand, fitsBusy, fits}
+use Rattle.rules.specs.Record.{homePlaceOf, within, implies, busy, atRest, fitsHand, fitsBusy, fits}
 use Rattle.rules.specs.Give.{taskAt}
 use Rattle.theory.specs.Run.{unlock}
 use Rattle.theory.specs.Dealt.{and-both, or-left, or-right, and-left, and-right}
@@ -30,7 +30,7 @@ use Rattle.theory.specs.Putting.{table-guarded}
 use Rattle.theory.specs.Building.{State}
 use Rattle.together.specs.Frames.{Within, occupied-same}
 use Rattle.together.specs.Invariant.{Occupied, Looked, Moving}
-use Rattle.together.specs.Invariant.{Stage, at-rest, at-home, looks-left, looks-right, owns-left, owns-both}
+use Rattle.together.specs.Invariant.{InPhase, at-rest, at-home, looks-left, looks-right, owns-left, owns-both}
 use Rattle.together.specs.Invariant.{has-read}
 use Rattle.together.specs.Invariant.{moving, marking, frees-left, frees-right, Unfinished, Inv}
 use Rattle.together.specs.Update.{same-or-not}
@@ -94,7 +94,7 @@ pub plain-void :
     State sh laid shown → remainders sh ≤ 4096 → at laid p .occupied ≡ false → at laid p ≡ zeroWord
 plain-void {sh} {laid} {shown} p s low free =
     ap (λ (ws : List Word). at ws p) (sym (unlocked-same laid (s .free)) ∙ sym (table-lay low (s .table)))
-    ∙ lay-void shown 0 (occupied laid) shown p (occupied-at laid p ∙ free)
+    ∙ lay-void shown 0 (occupiedPlaces laid) shown p (occupied-at laid p ∙ free)
 
 -- a word that is 0, lock bit aside
 pub void-of : (w : Word) → unlock w ≡ zeroWord → isVoid w ≡ true
@@ -105,9 +105,9 @@ void-of w e = ap isVoid e
 -- all places strictly between its ends are occupied
 pub between-taken :
     {sh : Shape} {ws : List Word} {t : Task} → Looked sh ws t → (q : ℕ) → t .left < q → q < t .right → Occupied ws q
-between-taken {sh} {ws} {t} x q low high = go (in-order q (homePlace sh t))
+between-taken {sh} {ws} {t} x q low high = go (in-order q (homePlaceOf sh t))
   where
-    go : (q ≤ homePlace sh t) ⊎ (homePlace sh t < q) → Occupied ws q
+    go : (q ≤ homePlaceOf sh t) ⊎ (homePlaceOf sh t < q) → Occupied ws q
     go (inl le) = x .leftward .taken q low le
     go (inr lt) = x .taken q (omega arith) high
 
@@ -118,7 +118,7 @@ pub record Moves (sh : Shape) (ws laid : List Word) (shown : List Entry) (t : Ta
 
 pub unfinished-moves :
     {sh : Shape} {ws laid : List Word} {shown : List Entry} {t : Task} →
-    9 ≤ t .phase → t .phase ≤ 10 → Stage sh ws laid shown t → Moves sh ws laid shown t
+    9 ≤ t .phase → t .phase ≤ 10 → InPhase sh ws laid shown t → Moves sh ws laid shown t
 unfinished-moves a b (at-rest (inl e)) = absurd (omega arith)
 unfinished-moves a b (at-rest (inr e)) = absurd (omega arith)
 unfinished-moves a b (at-home e k) = absurd (omega arith)
@@ -142,7 +142,7 @@ module _ {sh : Shape} {ws : List Word} {ts : List Task} {laid : List Word} {show
     -- an unoccupied place inside a stretch that is being moved is its unfilled end
     unfinished-free :
         (t : Task) (p : ℕ) →
-        Unfinished t p → Stage sh ws laid shown t → at ws p .occupied ≡ false → at ws p ≡ lockWord
+        Unfinished t p → InPhase sh ws laid shown t → at ws p .occupied ≡ false → at ws p ≡ lockWord
     unfinished-free t p u stage free = go m (m .moving .side) refl (same-or-not (t .left) p) (same-or-not (t .right) p)
       where
         m : Moves sh ws laid shown t
@@ -182,7 +182,7 @@ module _ {sh : Shape} {ws : List Word} {ts : List Task} {laid : List Word} {show
         go (inr none) =
             inv .settled p none ∙ plain-void p (inv .plain) low (occupied-same laid ws p (sym (inv .places)) ∙ free)
 
-    pub guards-free : Guarded sh (occupied ws)
+    pub guards-free : Guarded sh (occupiedPlaces ws)
     guards-free = subst (Guarded sh) (sym (inv .places)) (table-guarded sh (inv .plain .size) (inv .plain .table))
 
     pub guards-void : guardsVoid sh ws ≡ true
@@ -270,8 +270,8 @@ pub record FitsBusy (sh : Shape) (t : Task) : Type 0 where
   pub first : 1 ≤ t .phase
   pub last : t .phase ≤ 12
   pub key : t .key < keys sh
-  pub left : 2 ≤ t .phase → t .left < homePlace sh t
-  pub right : 3 ≤ t .phase → (suc (homePlace sh t) ≤ t .right) × (t .right ≤ rightGuard sh)
+  pub left : 2 ≤ t .phase → t .left < homePlaceOf sh t
+  pub right : 3 ≤ t .phase → (suc (homePlaceOf sh t) ≤ t .right) × (t .right ≤ rightGuard sh)
   pub hand : 8 ≤ t .phase → t .phase ≤ 10 → FitsHand sh t
   pub at-8 : t .phase ≡ 8 → (t .hand ≡ t .left) ⊎ (t .hand ≡ t .right)
   pub at-9 : t .phase ≡ 9 → t .hand ≢ t .goal

@@ -19,7 +19,7 @@ use Rattle.rules.specs.Word.{Word}
 use Rattle.rules.specs.Bytes.{wordsOf, bytesOf}
 use Rattle.rules.specs.Shape.{shapeOf, inRange, remainders, keys, places, goodTable, fitsLength}
 use Rattle.rules.specs.Entry.{Entry, split, sameEntry}
-use Rattle.rules.specs.Table.{at, occupied, entries, locked}
+use Rattle.rules.specs.Table.{at, occupiedPlaces, entries, locked}
 use Rattle.rules.specs.Lay.{holds, insert}
 use Rattle.rules.specs.Build.{puts}
 use Rattle.rules.specs.Answer.{Answer, says, refuses, Leaves, leaves}
@@ -38,10 +38,10 @@ use Rattle.theory.specs.Gaps.{AllTaken, full-room}
 use Rattle.theory.specs.Putting.{table-guarded}
 use Rattle.theory.specs.Building.{State, after-put, Roomy, Inside, put-not-full, in-home}
 use Rattle.demands.specs.Terms.{PlainTable, InKeys, entriesOf}
-use Rattle.demands.specs.Lent.{state-of, bytes-small}
+use Rattle.demands.specs.Tables.{state-of, bytes-small}
 use Rattle.demands.specs.Proof2.{same-split}
 use Rattle.demands.specs.Proof3.{listed-split}
-use Rattle.together.specs.Invariant.{Owns, by-left, by-right, Reserves, Unfinished, Inv, Stage, at-rest}
+use Rattle.together.specs.Invariant.{Owns, by-left, by-right, Reserves, Unfinished, Inv, InPhase, at-rest}
 use Rattle.together.specs.Invariant.{at-home}
 use Rattle.together.specs.Invariant.{looks-left, looks-right, owns-left, owns-both, has-read, moving, marking}
 use Rattle.together.specs.Invariant.{frees-left, frees-right}
@@ -194,7 +194,7 @@ fair-begin {m} {r} {bytes} ts t few rest =
 -- who is not busy, under the invariant, is at rest
 stage-rest :
     {sh : Shape} {ws laid : List Word} {shown : List Entry} (t : Task) →
-    length laid ≡ places sh → Stage sh ws laid shown t → busy t ≡ false → (t .phase ≡ 0) ⊎ (t .phase ≡ 13)
+    length laid ≡ places sh → InPhase sh ws laid shown t → busy t ≡ false → (t .phase ≡ 0) ⊎ (t .phase ≡ 13)
 unfolding fits
 stage-rest {sh} {ws} {laid} {shown} t size s idle = go (atRest t) refl (stage-fits {ws = ws} {shown = shown} size t s)
   where
@@ -556,7 +556,7 @@ stepped-world w i t ws =
     record { table = bytesOf ws; tasks = set (w .tasks) i t; given = w .given; said = heard t (w .said) }
 
 stage-last :
-    {sh : Shape} {ws laid : List Word} {shown : List Entry} (t : Task) → Stage sh ws laid shown t → t .phase ≤ 13
+    {sh : Shape} {ws laid : List Word} {shown : List Entry} (t : Task) → InPhase sh ws laid shown t → t .phase ≤ 13
 stage-last t (at-rest (inl e)) = omega arith
 stage-last t (at-rest (inr e)) = omega arith
 stage-last t (at-home p k) = omega arith
@@ -689,7 +689,7 @@ module _ {m r : ℕ} {start : List ℕ} {w : World} (f : Fair m r start w) (i : 
 
         go :
             (taskAt (w .tasks) i .answer ≡ 3)
-            ⊎ (AllTaken (shapeOf m r) (occupied (f .laid))
+            ⊎ (AllTaken (shapeOf m r) (occupiedPlaces (f .laid))
             × (holds (split (shapeOf m r) (taskAt (w .tasks) i .key)) (f .shown) ≡ false)) →
             ⊥
         go (inl before) = f .none-full us space .of-busy i lt first last before

@@ -15,8 +15,8 @@ use Rattle.rules.specs.Lists.{bitOf}
 use Rattle.rules.specs.Word.{Word, lockWord, withPayload}
 use Rattle.rules.specs.Shape.{remainders, keys}
 use Rattle.rules.specs.Entry.{Entry}
-use Rattle.rules.specs.Table.{at, occupied}
-use Rattle.rules.specs.Record.{homePlace, toPhase, withHand, withAnswer}
+use Rattle.rules.specs.Table.{at, occupiedPlaces}
+use Rattle.rules.specs.Record.{homePlaceOf, toPhase, withHand, withAnswer}
 use Rattle.rules.specs.Give.{taskAt}
 use Rattle.rules.specs.Phase as phase
 use Rattle.rules.specs.Phase.{to, neighbour, exchange, movesOn, marked}
@@ -26,13 +26,13 @@ use Rattle.theory.specs.Gaps.{Side, other}
 use Rattle.theory.specs.Cut.{end, from, upTo}
 use Rattle.theory.specs.Motion.{toward, finish, Heads, rightward, leftward, heads, finish-move, finish-mark}
 use Rattle.theory.specs.Region.{finish-locks, finish-occupied, length-locks}
-use Rattle.demands.specs.Lent.{table-small}
+use Rattle.demands.specs.Tables.{table-small}
 use Rattle.together.specs.Frames.{Within, at-set, at-other, finish-before, finish-after, locks-at}
 use Rattle.together.specs.Frames.{occupied-same, occupied-by}
 use Rattle.together.specs.Invariant.{Occupied, Looked, Moving, Owns, by-left, by-right, Reserves, Unfinished}
 use Rattle.together.specs.Invariant.{Inv, Ends, ends-found, ends-full, ends-inserted, RightEnd, right-found}
 use Rattle.together.specs.Invariant.{right-full}
-use Rattle.together.specs.Invariant.{right-waiting, right-filled, Stage, at-rest, moving, marking, frees-left}
+use Rattle.together.specs.Invariant.{right-waiting, right-filled, InPhase, at-rest, moving, marking, frees-left}
 use Rattle.together.specs.Invariant.{frees-right}
 use Rattle.together.specs.Stable.{word-of, from-ge, upTo-le, fills-as}
 use Rattle.together.specs.Update.{same-or-not}
@@ -111,7 +111,7 @@ module _ (ws : List Word) (p q : ℕ) (lp : p < length ws) (lq : q < length ws) 
       length-set (set ws p (withPayload (at ws q) (at ws p))) q (withPayload (at ws p) (at ws q))
       ∙ length-set ws p (withPayload (at ws q) (at ws p))
 
-  exchange-places : occupied (exchange ws p q) ≡ occupied ws
+  exchange-places : occupiedPlaces (exchange ws p q) ≡ occupiedPlaces ws
   exchange-places = occupied-by (exchange ws p q) ws exchange-size exchange-taken
 
 -- ---- a task in phase 9 or 10
@@ -214,7 +214,7 @@ module _ {sh : Shape} {ws : List Word} {ts : List Task} {laid : List Word} {show
 
         -- the record with the hand at the neighbour, in either phase
         moving-on : (n : ℕ) → Moving sh moved laid shown (toPhase n (withHand to-place t))
-        unfolding homePlace
+        unfolding homePlaceOf
         moving-on n =
             record {
               side = m .side;
@@ -261,7 +261,7 @@ module _ {sh : Shape} {ws : List Word} {ts : List Task} {laid : List Word} {show
               finished = λ q w.
                   ap
                   (λ (vs : List Word). unlock (at vs q))
-                  (finish-move ws (t .hand) (t .goal) (t .mark) (homePlace sh t) apart)
+                  (finish-move ws (t .hand) (t .goal) (t .mark) (homePlaceOf sh t) apart)
                   ∙ m .finished q w;
               put = m .put;
             }
@@ -289,7 +289,7 @@ module _ {sh : Shape} {ws : List Word} {ts : List Task} {laid : List Word} {show
             9 ≤ n →
             n ≤ 10 →
             movesOn (withHand to-place t) ≡ toPhase n (withHand to-place t) →
-            Stage sh moved laid shown (toPhase n (withHand to-place t)) → Walked sh ws ts laid shown i
+            InPhase sh moved laid shown (toPhase n (withHand to-place t)) → Walked sh ws ts laid shown i
         unfolding phase.move neighbour toward
         move-to n a b phase-is stage =
             record {
@@ -366,22 +366,22 @@ module _ {sh : Shape} {ws : List Word} {ts : List Task} {laid : List Word} {show
         (m : Moving sh ws laid shown t)
       where
         abbrev done : List Word
-        done = finish ws (t .hand) (t .goal) (t .mark) (homePlace sh t)
+        done = finish ws (t .hand) (t .goal) (t .mark) (homePlaceOf sh t)
 
         -- at the goal, finishing is the mark
-        mark-is : marked ws (t .mark) (t .goal) (homePlace sh t) ≡ done
+        mark-is : marked ws (t .mark) (t .goal) (homePlaceOf sh t) ≡ done
         mark-is =
-            sym (finish-mark ws (t .goal) (t .mark) (homePlace sh t))
-            ∙ ap (λ (h : ℕ). finish ws h (t .goal) (t .mark) (homePlace sh t)) (sym there)
+            sym (finish-mark ws (t .goal) (t .mark) (homePlaceOf sh t))
+            ∙ ap (λ (h : ℕ). finish ws h (t .goal) (t .mark) (homePlaceOf sh t)) (sym there)
 
         done-size : length done ≡ length ws
-        done-size = length-locks done ws (finish-locks ws (t .hand) (t .goal) (t .mark) (homePlace sh t))
+        done-size = length-locks done ws (finish-locks ws (t .hand) (t .goal) (t .mark) (homePlaceOf sh t))
 
         done-locks : (q : ℕ) → at done q .lock ≡ at ws q .lock
-        done-locks q = locks-at done ws q (finish-locks ws (t .hand) (t .goal) (t .mark) (homePlace sh t))
+        done-locks q = locks-at done ws q (finish-locks ws (t .hand) (t .goal) (t .mark) (homePlaceOf sh t))
 
-        done-places : occupied done ≡ occupied ws
-        done-places = finish-occupied ws (t .hand) (t .goal) (t .mark) (homePlace sh t)
+        done-places : occupiedPlaces done ≡ occupiedPlaces ws
+        done-places = finish-occupied ws (t .hand) (t .goal) (t .mark) (homePlaceOf sh t)
 
         done-outside : (q : ℕ) → (Within (t .left) (t .right) q → ⊥) → at done q ≡ at ws q
         done-outside q far = go (in-order (t .left) q) (in-order q (t .right))
@@ -402,7 +402,7 @@ module _ {sh : Shape} {ws : List Word} {ts : List Task} {laid : List Word} {show
                   (arith, m .goal-high, upTo-le (m .side) (t .right)),
             )
 
-            home-in : Within (t .left) (t .right) (homePlace sh t)
+            home-in : Within (t .left) (t .right) (homePlaceOf sh t)
             home-in = (omega (arith, x .leftward .below), omega (arith, x .above))
 
             closes : t .mark ≡ 1 → t .left < t .goal
@@ -423,7 +423,7 @@ module _ {sh : Shape} {ws : List Word} {ts : List Task} {laid : List Word} {show
                 (t .hand)
                 (t .goal)
                 (t .mark)
-                (homePlace sh t)
+                (homePlaceOf sh t)
                 hand-in
                 goal-in
                 home-in
@@ -440,7 +440,7 @@ module _ {sh : Shape} {ws : List Word} {ts : List Task} {laid : List Word} {show
                 (t .hand)
                 (t .goal)
                 (t .mark)
-                (homePlace sh t)
+                (homePlaceOf sh t)
                 hand-in
                 goal-in
                 home-in

@@ -17,15 +17,15 @@ use Rattle.rules.specs.Word.{Word}
 use Rattle.rules.specs.Shape.{keys, places, rightGuard}
 use Rattle.rules.specs.Entry.{Entry, split, sameHome, precedes}
 use Rattle.rules.specs.Table.{between, due, deal, virginPlaces, entriesBetween}
-use Rattle.rules.specs.Record.{homePlace, atRest, fits}
+use Rattle.rules.specs.Record.{homePlaceOf, atRest, fits}
 use Rattle.rules.specs.Phase.{smaller, markOf}
 use Rattle.theory.specs.Dealt.{or-left, or-right}
 use Rattle.theory.specs.Gaps as gaps
 use Rattle.theory.specs.Gaps.{Side, HomePlace}
 use Rattle.theory.specs.Cut.{end, from, upTo}
 use Rattle.theory.specs.Moving.{last-follows}
-use Rattle.together.specs.Invariant.{Looked, Fills, Ready, Moving}
-use Rattle.together.specs.Invariant.{Stage, at-rest, at-home, looks-left, looks-right, owns-left, owns-both}
+use Rattle.together.specs.Invariant.{Looked, Fills, MayFill, Moving}
+use Rattle.together.specs.Invariant.{InPhase, at-rest, at-home, looks-left, looks-right, owns-left, owns-both}
 use Rattle.together.specs.Invariant.{has-read}
 use Rattle.together.specs.Invariant.{moving, marking, frees-left, frees-right}
 use Rattle.together.specs.Facts.{FitsHand, FitsBusy, fits-busy}
@@ -75,7 +75,7 @@ hand-fits :
     (sh : Shape) (t : Task) (side : Side) →
     Fills side t →
     HomePlace sh (end side (t .left) (t .right)) →
-    homePlace sh t < t .right →
+    homePlaceOf sh t < t .right →
     t .right ≤ rightGuard sh →
     from side (t .left) ≤ t .hand →
     t .hand < upTo side (t .right) →
@@ -129,7 +129,7 @@ pub record Named (side : Side) (t : Task) : Type 0 where
 
 pub ready-named :
     {sh : Shape} {ws laid : List Word} {shown : List Entry} {t : Task} →
-    length laid ≡ places sh → Looked sh ws t → (y : Ready sh laid shown t) → Named (y .side) t
+    length laid ≡ places sh → Looked sh ws t → (y : MayFill sh laid shown t) → Named (y .side) t
 unfolding places rightGuard
 ready-named {sh} {ws} {laid} {shown} {t} size x y =
     record {
@@ -179,7 +179,7 @@ looked-fits t low high without k x =
     }
 
 module _ {sh : Shape} {ws laid : List Word} {shown : List Entry} (size : length laid ≡ places sh) where
-  ready-fits : (t : Task) → t .phase ≡ 8 → t .key < keys sh → Looked sh ws t → Ready sh laid shown t → FitsBusy sh t
+  ready-fits : (t : Task) → t .phase ≡ 8 → t .key < keys sh → Looked sh ws t → MayFill sh laid shown t → FitsBusy sh t
   ready-fits t p k x y =
       record {
         first = omega arith;
@@ -251,7 +251,7 @@ module _ {sh : Shape} {ws laid : List Word} {shown : List Entry} (size : length 
         at-10 = there;
       }
 
-  pub stage-fits : (t : Task) → Stage sh ws laid shown t → fits sh t ≡ true
+  pub stage-fits : (t : Task) → InPhase sh ws laid shown t → fits sh t ≡ true
   unfolding fits atRest
   stage-fits t (at-rest (inl e)) = or-left _ _ (or-left _ _ (eq-eqb (t .phase) 0 e))
   stage-fits t (at-rest (inr e)) = or-left _ _ (or-right (eqb (t .phase) 0) _ (eq-eqb (t .phase) 13 e))

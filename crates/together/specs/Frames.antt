@@ -11,7 +11,7 @@ use lib.ListN.{length, getD, take, drop, set, length-append, take-append-drop, L
 use lib.Seq.{slice, length-slice, length-take-le, take-take, getD-append-add, getD-take, getD-drop, getD-set-same}
 use lib.Seq.{getD-set-other, ext-getD}
 use Rattle.rules.specs.Word.{Word, zeroWord}
-use Rattle.rules.specs.Table.{at, occupied}
+use Rattle.rules.specs.Table.{at, occupiedPlaces}
 use Rattle.theory.specs.Run.{unlock}
 use Rattle.theory.specs.Places.{occupied-at, occupied-length}
 use Rattle.theory.specs.Motion.{finish}
@@ -59,14 +59,14 @@ module _ (ws : List Word) (a b : ℕ) (le : a ≤ b) (lt : b < length ws) where
   stretch-at i near = getD-drop a (take (suc b) ws) i zeroWord ∙ getD-take (suc b) ws (a + i) zeroWord (omega arith)
 
   -- finishing inside the stretch, as finishing the stretch alone
-  module _ (hand goal mark home : ℕ)
-      (hand-in : Within a b hand) (goal-in : Within a b goal) (home-in : Within a b home)
+  module _ (hand goal mark homeAt : ℕ)
+      (hand-in : Within a b hand) (goal-in : Within a b goal) (home-in : Within a b homeAt)
       (closes : mark ≡ 1 → a < goal)
     where
       inner : List Word
-      inner = finish (stretch ws a b) (hand - a) (goal - a) mark (home - a)
+      inner = finish (stretch ws a b) (hand - a) (goal - a) mark (homeAt - a)
 
-      finish-parts : finish ws hand goal mark home ≡ take a ws ++ (inner ++ drop (suc b) ws)
+      finish-parts : finish ws hand goal mark homeAt ≡ take a ws ++ (inner ++ drop (suc b) ws)
       unfolding inner
       finish-parts =
           (λ j.
@@ -75,7 +75,7 @@ module _ (ws : List Word) (a b : ℕ) (le : a ≤ b) (lt : b < length ws) where
           (place hand (hand-in .0) j)
           (place goal (goal-in .0) j)
           mark
-          (place home (home-in .0) j))
+          (place homeAt (home-in .0) j))
           ∙ finish-within
           (take a ws)
           (stretch ws a b)
@@ -83,7 +83,7 @@ module _ (ws : List Word) (a b : ℕ) (le : a ≤ b) (lt : b < length ws) where
           (hand - a)
           (goal - a)
           mark
-          (home - a)
+          (homeAt - a)
           (omega (arith, stretch-length))
           (omega (arith, stretch-length))
           (omega (arith, stretch-length))
@@ -95,16 +95,16 @@ module _ (ws : List Word) (a b : ℕ) (le : a ≤ b) (lt : b < length ws) where
       inner-length : length inner ≡ length (stretch ws a b)
       unfolding inner
       inner-length =
-          length-locks inner (stretch ws a b) (finish-locks (stretch ws a b) (hand - a) (goal - a) mark (home - a))
+          length-locks inner (stretch ws a b) (finish-locks (stretch ws a b) (hand - a) (goal - a) mark (homeAt - a))
 
       -- outside it nothing changes
-      pub finish-before : (p : ℕ) → p < a → at (finish ws hand goal mark home) p ≡ at ws p
+      pub finish-before : (p : ℕ) → p < a → at (finish ws hand goal mark homeAt) p ≡ at ws p
       finish-before p low =
           ap (λ (us : List Word). at us p) finish-parts
           ∙ List·getD-append (take a ws) (inner ++ drop (suc b) ws) zeroWord p (omega (arith, before-length))
           ∙ getD-take a ws p zeroWord low
 
-      pub finish-after : (p : ℕ) → b < p → at (finish ws hand goal mark home) p ≡ at ws p
+      pub finish-after : (p : ℕ) → b < p → at (finish ws hand goal mark homeAt) p ≡ at ws p
       finish-after p high =
           ap (λ (us : List Word). at us p) (finish-parts ∙ sym (append-assoc (take a ws) inner (drop (suc b) ws)))
           ∙ ap (at ((take a ws ++ inner) ++ drop (suc b) ws)) place
@@ -119,7 +119,7 @@ module _ (ws : List Word) (a b : ℕ) (le : a ≤ b) (lt : b < length ws) where
           there = omega arith
 
       -- inside it only the stretch matters
-      finish-inside : (p : ℕ) → Within a b p → at (finish ws hand goal mark home) p ≡ at inner (p - a)
+      finish-inside : (p : ℕ) → Within a b p → at (finish ws hand goal mark homeAt) p ≡ at inner (p - a)
       finish-inside p near =
           ap (λ (us : List Word). at us p) finish-parts
           ∙ ap (at (take a ws ++ (inner ++ drop (suc b) ws))) place
@@ -150,20 +150,20 @@ pub finish-agree :
     a ≤ b →
     b < length ws →
     length ws ≡ length vs →
-    (hand goal mark home : ℕ) →
+    (hand goal mark homeAt : ℕ) →
     Within a b hand →
     Within a b goal →
-    Within a b home →
+    Within a b homeAt →
     (mark ≡ 1 → a < goal) →
     ((p : ℕ) → Within a b p → at ws p ≡ at vs p) →
-    (p : ℕ) → Within a b p → at (finish ws hand goal mark home) p ≡ at (finish vs hand goal mark home) p
+    (p : ℕ) → Within a b p → at (finish ws hand goal mark homeAt) p ≡ at (finish vs hand goal mark homeAt) p
 unfolding inner
-finish-agree ws vs a b le lt size hand goal mark home hand-in goal-in home-in closes alike p near =
-    finish-inside ws a b le lt hand goal mark home hand-in goal-in home-in closes p near
+finish-agree ws vs a b le lt size hand goal mark homeAt hand-in goal-in home-in closes alike p near =
+    finish-inside ws a b le lt hand goal mark homeAt hand-in goal-in home-in closes p near
     ∙ ap
-    (λ (us : List Word). at (finish us (hand - a) (goal - a) mark (home - a)) (p - a))
+    (λ (us : List Word). at (finish us (hand - a) (goal - a) mark (homeAt - a)) (p - a))
     (stretch-same ws vs a b le lt size alike)
-    ∙ sym (finish-inside vs a b le (omega arith) hand goal mark home hand-in goal-in home-in closes p near)
+    ∙ sym (finish-inside vs a b le (omega arith) hand goal mark homeAt hand-in goal-in home-in closes p near)
 
 -- ---- locks and occupied places
 pub at-unlocked : (ws : List Word) (p : ℕ) → at (map unlock ws) p ≡ unlock (at ws p)
@@ -175,17 +175,17 @@ locks-at ws vs p e =
     ∙ ap (λ (bs : List Bool). getD bs p false) e
     ∙ List·getD-map (λ (w : Word). w .lock) vs p zeroWord
 
-pub occupied-same : (ws vs : List Word) (p : ℕ) → occupied ws ≡ occupied vs → at ws p .occupied ≡ at vs p .occupied
+pub occupied-same : (ws vs : List Word) (p : ℕ) → occupiedPlaces ws ≡ occupiedPlaces vs → at ws p .occupied ≡ at vs p .occupied
 occupied-same ws vs p e = sym (occupied-at ws p) ∙ ap (λ (bs : List Bool). getD bs p false) e ∙ occupied-at vs p
 
 -- words with the same places occupied, place by place
 pub occupied-by :
     (ws vs : List Word) →
-    length ws ≡ length vs → ((p : ℕ) → at ws p .occupied ≡ at vs p .occupied) → occupied ws ≡ occupied vs
+    length ws ≡ length vs → ((p : ℕ) → at ws p .occupied ≡ at vs p .occupied) → occupiedPlaces ws ≡ occupiedPlaces vs
 occupied-by ws vs size alike =
     ext-getD
     false
-    (occupied ws)
-    (occupied vs)
+    (occupiedPlaces ws)
+    (occupiedPlaces vs)
     (occupied-length ws ∙ size ∙ sym (occupied-length vs))
     (λ p lt. occupied-at ws p ∙ alike p ∙ sym (occupied-at vs p))

@@ -14,9 +14,9 @@ use Rattle.rules.specs.declared.Task.{Task}
 use Rattle.rules.specs.Word.{Word, lockWord}
 use Rattle.rules.specs.Shape.{keys, rightGuard}
 use Rattle.rules.specs.Entry.{Entry, split}
-use Rattle.rules.specs.Table.{at, occupied, entriesBetween}
+use Rattle.rules.specs.Table.{at, occupiedPlaces, entriesBetween}
 use Rattle.rules.specs.Lay.{holds}
-use Rattle.rules.specs.Record.{homePlace}
+use Rattle.rules.specs.Record.{homePlaceOf}
 use Rattle.rules.specs.Give.{taskAt}
 use Rattle.rules.specs.Phase.{smaller, markOf}
 use Rattle.theory.specs.Run.{unlock}
@@ -34,15 +34,15 @@ Occupied ws p = at ws p .occupied ≡ true
 -- from the home to the left everything up to, not including, left was seen occupied, and stays so: no step empties a
 -- place
 pub record LookedLeft (sh : Shape) (ws : List Word) (t : Task) : Type 0 where
-  pub below : t .left < homePlace sh t
-  pub taken : (q : ℕ) → t .left < q → q ≤ homePlace sh t → Occupied ws q
+  pub below : t .left < homePlaceOf sh t
+  pub taken : (q : ℕ) → t .left < q → q ≤ homePlaceOf sh t → Occupied ws q
 
 -- and so from the home to the right
 pub record Looked (sh : Shape) (ws : List Word) (t : Task) : Type 0 where
   pub leftward : LookedLeft sh ws t
-  pub above : homePlace sh t < t .right
+  pub above : homePlaceOf sh t < t .right
   pub inside : t .right ≤ rightGuard sh
-  pub taken : (q : ℕ) → homePlace sh t ≤ q → q < t .right → Occupied ws q
+  pub taken : (q : ℕ) → homePlaceOf sh t ≤ q → q < t .right → Occupied ws q
 
 -- the end that a task fills: the left one, or the right one where the left is the guard
 abbrev pub Fills : Side → Task → Type 0
@@ -55,7 +55,7 @@ pub record FilledEnd (ws : List Word) (p : ℕ) : Type 0 where
   pub kept : at ws p .lock ≡ true
 
 -- phase 8: what the read step found holds of the table laid, so the fill may go on from it
-pub record Ready (sh : Shape) (laid : List Word) (shown : List Entry) (t : Task) : Type 0 where
+pub record MayFill (sh : Shape) (laid : List Word) (shown : List Entry) (t : Task) : Type 0 where
   pub side : Side
   pub fills : Fills side t
   pub room : HomePlace sh (end side (t .left) (t .right))
@@ -83,7 +83,7 @@ pub record Moving (sh : Shape) (ws laid : List Word) (shown : List Entry) (t : T
   pub finished :
       (q : ℕ) →
       Within (t .left) (t .right) q →
-      unlock (at (finish ws (t .hand) (t .goal) (t .mark) (homePlace sh t)) q) ≡ at laid q
+      unlock (at (finish ws (t .hand) (t .goal) (t .mark) (homePlaceOf sh t)) q) ≡ at laid q
   pub put : holds (split sh (t .key)) shown ≡ true
 
 -- phase 11: both ends are still owned; only an inserted key filled one
@@ -112,34 +112,34 @@ pub data RightEnd (sh : Shape) (ws : List Word) (shown : List Entry) (t : Task) 
       t .answer ≡ 2 → holds (split sh (t .key)) shown ≡ true → FilledEnd ws (t .right) → RightEnd sh ws shown t
 
 -- what a task relies on in each phase; its key is in range in all phases but at rest
-pub data Stage (sh : Shape) (ws laid : List Word) (shown : List Entry) (t : Task) : Type 0 where
-  at-rest : (t .phase ≡ 0) ⊎ (t .phase ≡ 13) → Stage sh ws laid shown t
-  at-home : t .phase ≡ 1 → t .key < keys sh → Stage sh ws laid shown t
-  looks-left : t .phase ≡ 2 → t .key < keys sh → LookedLeft sh ws t → Stage sh ws laid shown t
+pub data InPhase (sh : Shape) (ws laid : List Word) (shown : List Entry) (t : Task) : Type 0 where
+  at-rest : (t .phase ≡ 0) ⊎ (t .phase ≡ 13) → InPhase sh ws laid shown t
+  at-home : t .phase ≡ 1 → t .key < keys sh → InPhase sh ws laid shown t
+  looks-left : t .phase ≡ 2 → t .key < keys sh → LookedLeft sh ws t → InPhase sh ws laid shown t
   -- phases 3 and 4 own nothing yet
-  looks-right : 3 ≤ t .phase → t .phase ≤ 4 → t .key < keys sh → Looked sh ws t → Stage sh ws laid shown t
+  looks-right : 3 ≤ t .phase → t .phase ≤ 4 → t .key < keys sh → Looked sh ws t → InPhase sh ws laid shown t
   -- phases 5 and 6 own the left end, exactly the lock bit
   owns-left :
       5 ≤ t .phase →
-      t .phase ≤ 6 → t .key < keys sh → Looked sh ws t → at ws (t .left) ≡ lockWord → Stage sh ws laid shown t
+      t .phase ≤ 6 → t .key < keys sh → Looked sh ws t → at ws (t .left) ≡ lockWord → InPhase sh ws laid shown t
   -- phase 7 owns both ends, exactly the lock bit, so what lies between is one cluster that nobody else may enlarge
   owns-both :
       t .phase ≡ 7 →
       t .key < keys sh →
-      Looked sh ws t → at ws (t .left) ≡ lockWord → at ws (t .right) ≡ lockWord → Stage sh ws laid shown t
+      Looked sh ws t → at ws (t .left) ≡ lockWord → at ws (t .right) ≡ lockWord → InPhase sh ws laid shown t
   has-read :
       t .phase ≡ 8 →
       t .key < keys sh →
       Looked sh ws t →
-      at ws (t .left) ≡ lockWord → at ws (t .right) ≡ lockWord → Ready sh laid shown t → Stage sh ws laid shown t
+      at ws (t .left) ≡ lockWord → at ws (t .right) ≡ lockWord → MayFill sh laid shown t → InPhase sh ws laid shown t
   moving :
       t .phase ≡ 9 → t .key < keys sh → Looked sh ws t → t .hand ≢ t .goal → Moving sh ws laid shown t →
-      Stage sh ws laid shown t
+      InPhase sh ws laid shown t
   marking :
       t .phase ≡ 10 → t .key < keys sh → Looked sh ws t → t .hand ≡ t .goal → Moving sh ws laid shown t →
-      Stage sh ws laid shown t
-  frees-left : t .phase ≡ 11 → t .key < keys sh → Looked sh ws t → Ends sh ws shown t → Stage sh ws laid shown t
-  frees-right : t .phase ≡ 12 → t .key < keys sh → Looked sh ws t → RightEnd sh ws shown t → Stage sh ws laid shown t
+      InPhase sh ws laid shown t
+  frees-left : t .phase ≡ 11 → t .key < keys sh → Looked sh ws t → Ends sh ws shown t → InPhase sh ws laid shown t
+  frees-right : t .phase ≡ 12 → t .key < keys sh → Looked sh ws t → RightEnd sh ws shown t → InPhase sh ws laid shown t
 
 -- ---- two tasks
 -- phases 5 and 6 own left; 7 to 11 left and right; 12 right
@@ -169,10 +169,10 @@ pub record Inv (sh : Shape) (ws : List Word) (ts : List Task) (laid : List Word)
   -- the table laid is plain, and shows the entries put so far
   pub plain : State sh laid shown
   -- it has the same places occupied
-  pub places : occupied ws ≡ occupied laid
+  pub places : occupiedPlaces ws ≡ occupiedPlaces laid
   -- remainders fit their field, so that words and bytes stand for each other
   pub small : (p : ℕ) → at ws p .remainder < 4096
-  pub stage : (i : ℕ) → i < length ts → Stage sh ws laid shown (taskAt ts i)
+  pub stage : (i : ℕ) → i < length ts → InPhase sh ws laid shown (taskAt ts i)
   pub apart : (i j : ℕ) → i < length ts → j < length ts → i ≢ j → Apart (taskAt ts i) (taskAt ts j)
   -- each lock bit has an owner
   pub owner : (p : ℕ) → at ws p .lock ≡ true → (i : ℕ) × (i < length ts) × Owns (taskAt ts i) p

@@ -13,7 +13,7 @@ use Rattle.rules.specs.declared.Task.{Task}
 use Rattle.rules.specs.Word.{Word, lockWord, withLock}
 use Rattle.rules.specs.Shape.{remainders, places}
 use Rattle.rules.specs.Entry.{Entry}
-use Rattle.rules.specs.Table.{at, occupied}
+use Rattle.rules.specs.Table.{at, occupiedPlaces}
 use Rattle.rules.specs.Give.{taskAt}
 use Rattle.theory.specs.Run.{unlock}
 use Rattle.theory.specs.Gaps as gaps
@@ -24,7 +24,7 @@ use Rattle.together.specs.Frames.{Within, at-set, at-other, same-words, 
 use Rattle.together.specs.Invariant.{Looked, FilledEnd, Owns, by-left, by-right, Reserves, Apart, Unfinished, Inv}
 use Rattle.together.specs.Invariant.{Ends, ends-found, ends-full, ends-inserted, RightEnd, right-found}
 use Rattle.together.specs.Invariant.{right-full, right-waiting}
-use Rattle.together.specs.Invariant.{right-filled, Stage, at-rest, at-home, looks-left, looks-right, owns-left}
+use Rattle.together.specs.Invariant.{right-filled, InPhase, at-rest, at-home, looks-left, looks-right, owns-left}
 use Rattle.together.specs.Invariant.{owns-both, has-read}
 use Rattle.together.specs.Invariant.{moving, marking, frees-left, frees-right}
 use Rattle.together.specs.Stable.{Frame, LetsAlone, stage-stable}
@@ -63,7 +63,7 @@ Held ws t =
     (5 ≤ t .phase → t .phase ≤ 11 → at ws (t .left) .lock ≡ true)
     × (7 ≤ t .phase → t .phase ≤ 12 → at ws (t .right) .lock ≡ true)
 
-stage-held : {sh : Shape} {ws laid : List Word} {shown : List Entry} {t : Task} → Stage sh ws laid shown t → Held ws t
+stage-held : {sh : Shape} {ws laid : List Word} {shown : List Entry} {t : Task} → InPhase sh ws laid shown t → Held ws t
 stage-held (at-rest (inl e)) = (λ a b. absurd (omega arith), λ a b. absurd (omega arith))
 stage-held (at-rest (inr e)) = (λ a b. absurd (omega arith), λ a b. absurd (omega arith))
 stage-held (at-home e k) = (λ a b. absurd (omega arith), λ a b. absurd (omega arith))
@@ -83,7 +83,7 @@ stage-held (frees-right e k x y) = (λ a b. absurd (omega arith), λ a b. right-
 
 pub owned-locked :
     {sh : Shape} {ws laid : List Word} {shown : List Entry} {t : Task} (p : ℕ) →
-    Stage sh ws laid shown t → Owns t p → at ws p .lock ≡ true
+    InPhase sh ws laid shown t → Owns t p → at ws p .lock ≡ true
 owned-locked {ws = ws} p stage (by-left a b e) = ap (λ (q : ℕ). at ws q .lock) e ∙ stage-held stage .0 a b
 owned-locked {ws = ws} p stage (by-right a b e) = ap (λ (q : ℕ). at ws q .lock) e ∙ stage-held stage .1 a b
 
@@ -105,7 +105,7 @@ pub still :
     {sh : Shape} {ws : List Word} {ts : List Task} {laid : List Word} {shown : List Entry} (i : ℕ) (t′ : Task) →
     remainders sh ≤ 4096 →
     Inv sh ws ts laid shown →
-    Stage sh ws laid shown t′ →
+    InPhase sh ws laid shown t′ →
     ((p : ℕ) → Owns (taskAt ts i) p → Owns t′ p) →
     ((p : ℕ) → Owns t′ p → Owns (taskAt ts i) p) →
     (Reserves t′ →
@@ -169,10 +169,10 @@ module _ (ws : List Word) (p : ℕ) (b : Bool) (lt : p < length ws) where
   pub relocked-occupied : (q : ℕ) → at relocked q .occupied ≡ at ws q .occupied
   relocked-occupied q = ap (λ (w : Word). w .occupied) (relocked-words q)
 
-  pub relocked-places : occupied relocked ≡ occupied ws
+  pub relocked-places : occupiedPlaces relocked ≡ occupiedPlaces ws
   relocked-places =
       sym (occupied-unlock relocked)
-      ∙ ap occupied
+      ∙ ap occupiedPlaces
       (same-words
       (map unlock relocked)
       (map unlock ws)
@@ -183,7 +183,7 @@ module _ (ws : List Word) (p : ℕ) (b : Bool) (lt : p < length ws) where
 module _ {sh : Shape} {ws : List Word} {ts : List Task} {laid : List Word} {shown : List Entry} (i : ℕ) (t′ : Task)
     (low : remainders sh ≤ 4096) (inv : Inv sh ws ts laid shown) (p : ℕ) (b : Bool) (lt : p < length ws)
     -- nobody else owns the place
-    (alone : (u : Task) → Apart (taskAt ts i) u → Stage sh ws laid shown u → Owns u p → ⊥)
+    (alone : (u : Task) → Apart (taskAt ts i) u → InPhase sh ws laid shown u → Owns u p → ⊥)
   where
     relock-frame : Frame sh ws laid shown (relocked ws p b lt) laid shown (λ q. ⊥)
     relock-frame =
@@ -201,7 +201,7 @@ module _ {sh : Shape} {ws : List Word} {ts : List Task} {laid : List Word} {show
     relock-alone :
         (u : Task) →
         Apart (taskAt ts i) u →
-        Stage sh ws laid shown u → LetsAlone ws (relocked ws p b lt) (λ q. ⊥) u
+        InPhase sh ws laid shown u → LetsAlone ws (relocked ws p b lt) (λ q. ⊥) u
     relock-alone u a s =
         record {
           locks = λ q o.
@@ -213,8 +213,8 @@ module _ {sh : Shape} {ws : List Word} {ts : List Task} {laid : List Word} {show
         }
 
     pub relock :
-        Stage sh (relocked ws p b lt) laid shown t′ →
-        ((u : Task) → Apart (taskAt ts i) u → Stage sh ws laid shown u → Apart t′ u) →
+        InPhase sh (relocked ws p b lt) laid shown t′ →
+        ((u : Task) → Apart (taskAt ts i) u → InPhase sh ws laid shown u → Apart t′ u) →
         ((q : ℕ) → q ≢ p → Owns (taskAt ts i) q → Owns t′ q) →
         (b ≡ true → Owns t′ p) →
         ((q : ℕ) → Unfinished (taskAt ts i) q → Unfinished t′ q) →

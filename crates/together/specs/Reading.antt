@@ -14,9 +14,9 @@ use Rattle.rules.specs.declared.Task.{Task}
 use Rattle.rules.specs.Word.{Word, lockWord, isVoid, isLock}
 use Rattle.rules.specs.Shape.{homes, remainders, keys, rightGuard}
 use Rattle.rules.specs.Entry.{Entry, split}
-use Rattle.rules.specs.Table.{at, occupied, entriesBetween}
+use Rattle.rules.specs.Table.{at, occupiedPlaces, entriesBetween}
 use Rattle.rules.specs.Lay.{holds}
-use Rattle.rules.specs.Record.{homePlace, toPhase, withHand, withGoal, withAnswer}
+use Rattle.rules.specs.Record.{homePlaceOf, toPhase, withHand, withGoal, withAnswer}
 use Rattle.rules.specs.Give.{taskAt}
 use Rattle.rules.specs.Phase as phase
 use Rattle.rules.specs.Phase.{to, smaller, markOf, readable, handOf, goalOf, readEntries}
@@ -26,7 +26,7 @@ use Rattle.theory.specs.Gaps.{AllTaken}
 use Rattle.theory.specs.Places.{occupied-at}
 use Rattle.together.specs.Frames.{occupied-same}
 use Rattle.together.specs.Facts.{between-taken}
-use Rattle.together.specs.Invariant.{Looked, Ready, Owns, by-left, by-right, Unfinished, Inv, Stage, has-read}
+use Rattle.together.specs.Invariant.{Looked, MayFill, Owns, by-left, by-right, Unfinished, Inv, InPhase, has-read}
 use Rattle.together.specs.Invariant.{frees-left}
 use Rattle.together.specs.Invariant.{ends-found, ends-full}
 use Rattle.together.specs.Update.{Steps}
@@ -72,7 +72,7 @@ module _ {sh : Shape} {ws : List Word} {ts : List Task} {laid : List Word} {show
     -- a step from phase 7 that keeps both ends
     kept :
         (t′ : Task) → 7 ≤ t′ .phase → t′ .phase ≤ 11 → t′ .left ≡ t .left → t′ .right ≡ t .right →
-        (t′ .phase ≤ 8) ⊎ (11 ≤ t′ .phase) → Stage sh ws laid shown t′ → Steps sh ws ts laid shown i t′ ws laid shown
+        (t′ .phase ≤ 8) ⊎ (11 ≤ t′ .phase) → InPhase sh ws laid shown t′ → Steps sh ws ts laid shown i t′ ws laid shown
     kept t′ a b l r c stage =
         still
         i
@@ -95,7 +95,7 @@ module _ {sh : Shape} {ws : List Word} {ts : List Task} {laid : List Word} {show
 
     -- the key is there
     walk-found : holds e es ≡ true → Walked sh ws ts laid shown i
-    unfolding readEntries homePlace
+    unfolding readEntries homePlaceOf
     walk-found h =
         record {
           next = next;
@@ -121,14 +121,14 @@ module _ {sh : Shape} {ws : List Word} {ts : List Task} {laid : List Word} {show
         next = toPhase 11 (withAnswer 1 t)
 
     -- between two guards all is occupied
-    all-taken : (eqb (t .left) 0 && eqb (t .right) (rightGuard sh)) ≡ true → AllTaken sh (occupied laid)
+    all-taken : (eqb (t .left) 0 && eqb (t .right) (rightGuard sh)) ≡ true → AllTaken sh (occupiedPlaces laid)
     unfolding rightGuard
-    all-taken guards q home =
+    all-taken guards q homeAt =
         let l = eqb-true (t .left) 0 (and-left (eqb (t .left) 0) _ guards) in
         let g = eqb-true (t .right) (homes sh + 1) (and-right (eqb (t .left) 0) _ guards) in
         occupied-at laid q
         ∙ occupied-same laid ws q (sym (inv .places))
-        ∙ between-taken x q (omega (arith, home .first)) (omega (arith, home .last))
+        ∙ between-taken x q (omega (arith, homeAt .first)) (omega (arith, homeAt .last))
 
     -- both ends are guards: full
     walk-full :
@@ -159,17 +159,17 @@ module _ {sh : Shape} {ws : List Word} {ts : List Task} {laid : List Word} {show
     reading = toPhase 8 (withHand (handOf t) (withGoal (goalOf t (smaller e es)) (markOf e es) t))
 
     is-ready :
-        holds e es ≡ false → (eqb (t .left) 0 && eqb (t .right) (rightGuard sh)) ≡ false → Ready sh laid shown reading
-    unfolding handOf goalOf rightGuard homePlace
+        holds e es ≡ false → (eqb (t .left) 0 && eqb (t .right) (rightGuard sh)) ≡ false → MayFill sh laid shown reading
+    unfolding handOf goalOf rightGuard homePlaceOf
     is-ready h open-end = go (eqb (t .left) 0) refl
       where
-        inner : (1 ≤ homePlace sh t) × (homePlace sh t ≤ homes sh)
+        inner : (1 ≤ homePlaceOf sh t) × (homePlaceOf sh t ≤ homes sh)
         inner = home-inside low inv i lt k
 
         new : holds e shown ≡ false
         new = sym (see .same) ∙ h
 
-        go : (b : Bool) → eqb (t .left) 0 ≡ b → Ready sh laid shown reading
+        go : (b : Bool) → eqb (t .left) 0 ≡ b → MayFill sh laid shown reading
         go true at-guard =
             let zero-left = eqb-true (t .left) 0 at-guard in
             let apart = eqb-false (t .right) (homes sh + 1) (rw at-guard at open-end) in

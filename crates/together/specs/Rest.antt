@@ -32,7 +32,7 @@ use Rattle.theory.specs.SoundTable.{table-entries}
 use Rattle.theory.specs.Keys.{listed}
 use Rattle.theory.specs.Building.{Inside, subset-length}
 use Rattle.demands.specs.Terms.{SoundTable, PlainTable, InKeys, entriesOf, listOf, distinct, putAll}
-use Rattle.demands.specs.Lent.{plain-of}
+use Rattle.demands.specs.Tables.{plain-of}
 use Rattle.demands.specs.Proof2.{split-keys, in-shape, listed-here, ascending-list}
 use Rattle.demands.specs.Proof3.{listed-split, held-key, keys-roomy, all-both, map-both, put-all-plain}
 use Rattle.demands.specs.Proof3.{ascending-keys, all-within}

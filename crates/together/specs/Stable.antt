@@ -15,7 +15,7 @@ use Rattle.rules.specs.Shape.{places, rightGuard}
 use Rattle.rules.specs.Entry.{Entry, split}
 use Rattle.rules.specs.Table.{at, between, entriesBetween, virginPlaces, deal}
 use Rattle.rules.specs.Lay.{holds}
-use Rattle.rules.specs.Record.{homePlace}
+use Rattle.rules.specs.Record.{homePlaceOf}
 use Rattle.rules.specs.Phase.{smaller, markOf}
 use Rattle.theory.specs.Run.{unlock}
 use Rattle.theory.specs.Dealt.{word-path}
@@ -25,11 +25,11 @@ use Rattle.theory.specs.Cut.{end, from, upTo, between-at}
 use Rattle.theory.specs.Motion.{finish}
 use Rattle.theory.specs.Region.{finish-unlock}
 use Rattle.together.specs.Frames.{Within, finish-agree, at-unlocked}
-use Rattle.together.specs.Invariant.{Occupied, LookedLeft, Looked, Fills, FilledEnd, Ready, Moving, Owns}
+use Rattle.together.specs.Invariant.{Occupied, LookedLeft, Looked, Fills, FilledEnd, MayFill, Moving, Owns}
 use Rattle.together.specs.Invariant.{by-left, by-right, Reserves}
 use Rattle.together.specs.Invariant.{Ends, ends-found, ends-full, ends-inserted, RightEnd, right-found}
 use Rattle.together.specs.Invariant.{right-full, right-waiting}
-use Rattle.together.specs.Invariant.{right-filled, Stage, at-rest, at-home, looks-left, looks-right, owns-left}
+use Rattle.together.specs.Invariant.{right-filled, InPhase, at-rest, at-home, looks-left, looks-right, owns-left}
 use Rattle.together.specs.Invariant.{owns-both, has-read}
 use Rattle.together.specs.Invariant.{moving, marking, frees-left, frees-right}
 
@@ -80,11 +80,11 @@ between-same ws vs l r le size alike =
 
 -- where finishing is seen through unlocked words
 pub finish-at :
-    (ws : List Word) (hand goal mark home q : ℕ) →
-    unlock (at (finish ws hand goal mark home) q) ≡ at (finish (map unlock ws) hand goal mark home) q
-finish-at ws hand goal mark home q =
-    sym (at-unlocked (finish ws hand goal mark home) q)
-    ∙ ap (λ (vs : List Word). at vs q) (finish-unlock ws hand goal mark home)
+    (ws : List Word) (hand goal mark homeAt q : ℕ) →
+    unlock (at (finish ws hand goal mark homeAt) q) ≡ at (finish (map unlock ws) hand goal mark homeAt) q
+finish-at ws hand goal mark homeAt q =
+    sym (at-unlocked (finish ws hand goal mark homeAt) q)
+    ∙ ap (λ (vs : List Word). at vs q) (finish-unlock ws hand goal mark homeAt)
 
 -- the ends of a stretch and what lies between, in numbers
 pub from-ge : (side : Side) (l : ℕ) → l ≤ from side l
@@ -113,11 +113,11 @@ pub finish-same :
     ((p : ℕ) → Within (t .left) (t .right) p → unlock (at ws p) ≡ unlock (at vs p)) →
     (q : ℕ) →
     Within (t .left) (t .right) q →
-    unlock (at (finish ws (t .hand) (t .goal) (t .mark) (homePlace sh t)) q)
-    ≡ unlock (at (finish vs (t .hand) (t .goal) (t .mark) (homePlace sh t)) q)
+    unlock (at (finish ws (t .hand) (t .goal) (t .mark) (homePlaceOf sh t)) q)
+    ≡ unlock (at (finish vs (t .hand) (t .goal) (t .mark) (homePlaceOf sh t)) q)
 unfolding places rightGuard
 finish-same sh ws vs t side size size′ look hl hh gl gh closes alike q near =
-    finish-at ws (t .hand) (t .goal) (t .mark) (homePlace sh t) q
+    finish-at ws (t .hand) (t .goal) (t .mark) (homePlaceOf sh t) q
     ∙ finish-agree
     (map unlock ws)
     (map unlock vs)
@@ -129,7 +129,7 @@ finish-same sh ws vs t side size size′ look hl hh gl gh closes alike q near =
     (t .hand)
     (t .goal)
     (t .mark)
-    (homePlace sh t)
+    (homePlaceOf sh t)
     (omega (arith, from-ge side (t .left)), omega (arith, upTo-le side (t .right)))
     (omega (arith, from-ge side (t .left)), omega (arith, upTo-le side (t .right)))
     (omega (arith, look .leftward .below), omega (arith, look .above))
@@ -137,7 +137,7 @@ finish-same sh ws vs t side size size′ look hl hh gl gh closes alike q near =
     (λ p i. at-unlocked ws p ∙ alike p i ∙ sym (at-unlocked vs p))
     q
     near
-    ∙ sym (finish-at vs (t .hand) (t .goal) (t .mark) (homePlace sh t) q)
+    ∙ sym (finish-at vs (t .hand) (t .goal) (t .mark) (homePlaceOf sh t) q)
 
 -- ---- stability
 module _ {sh : Shape} {ws laid : List Word} {shown : List Entry} {ws′ laid′ : List Word} {shown′ : List Entry}
@@ -190,7 +190,7 @@ module _ {sh : Shape} {ws laid : List Word} {shown : List Entry} {ws′ laid′ 
         Reserves u →
         Looked sh ws u →
         holds (split sh (u .key)) shown′ ≡ holds (split sh (u .key)) shown →
-        Ready sh laid shown u → Ready sh laid′ shown′ u
+        MayFill sh laid shown u → MayFill sh laid′ shown′ u
     ready-stable r x fresh y =
         record {
           side = y .side;
@@ -288,7 +288,7 @@ module _ {sh : Shape} {ws laid : List Word} {shown : List Entry} {ws′ laid′ 
 
     pub stage-stable :
         (u .phase ≡ 8 → holds (split sh (u .key)) shown′ ≡ holds (split sh (u .key)) shown) →
-        Stage sh ws laid shown u → Stage sh ws′ laid′ shown′ u
+        InPhase sh ws laid shown u → InPhase sh ws′ laid′ shown′ u
     stage-stable fresh (at-rest p) = at-rest p
     stage-stable fresh (at-home p k) = at-home p k
     stage-stable fresh (looks-left p k x) = looks-left p k (left-stable x)

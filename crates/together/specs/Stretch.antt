@@ -13,11 +13,11 @@ use Rattle.rules.specs.declared.Task.{Task}
 use Rattle.rules.specs.Word.{Word}
 use Rattle.rules.specs.Shape.{remainders, places}
 use Rattle.rules.specs.Entry.{Entry}
-use Rattle.rules.specs.Table.{at, occupied}
+use Rattle.rules.specs.Table.{at, occupiedPlaces}
 use Rattle.rules.specs.Give.{taskAt}
 use Rattle.theory.specs.Run.{unlock}
 use Rattle.together.specs.Frames.{Within, occupied-same}
-use Rattle.together.specs.Invariant.{Looked, Owns, by-left, by-right, Apart, Unfinished, Inv, Stage}
+use Rattle.together.specs.Invariant.{Looked, Owns, by-left, by-right, Apart, Unfinished, Inv, InPhase}
 use Rattle.together.specs.Stable.{Frame, LetsAlone, stage-stable}
 use Rattle.together.specs.Update.{Steps, same-or-not}
 use Rattle.together.specs.Facts.{in-order, words-size, between-taken}
@@ -66,7 +66,7 @@ module _ {sh : Shape} {ws : List Word} {ts : List Task} {laid : List Word} {show
     (from-9 : 9 ≤ taskAt ts i .phase) (to-10 : taskAt ts i .phase ≤ 10) (x : Looked sh ws (taskAt ts i))
     (size : length ws′ ≡ length ws)
     (locks : (q : ℕ) → at ws′ q .lock ≡ at ws q .lock)
-    (taken : occupied ws′ ≡ occupied ws)
+    (taken : occupiedPlaces ws′ ≡ occupiedPlaces ws)
     (outside : (q : ℕ) → (Within (taskAt ts i .left) (taskAt ts i .right) q → ⊥) → at ws′ q ≡ at ws q)
   where
     inner-frame : Frame sh ws laid shown ws′ laid shown (Within (taskAt ts i .left) (taskAt ts i .right))
@@ -84,7 +84,7 @@ module _ {sh : Shape} {ws : List Word} {ts : List Task} {laid : List Word} {show
 
     pub inside-stretch :
         ((q : ℕ) → at ws′ q .remainder < 4096) →
-        Stage sh ws′ laid shown t′ →
+        InPhase sh ws′ laid shown t′ →
         ((q : ℕ) → Owns (taskAt ts i) q → Owns t′ q) →
         ((u : Task) → Apart (taskAt ts i) u → Apart t′ u) →
         ((q : ℕ) →

@@ -15,11 +15,11 @@ use Rattle.rules.specs.declared.Shape.{Shape}
 use Rattle.rules.specs.declared.Task.{Task}
 use Rattle.rules.specs.Word.{Word}
 use Rattle.rules.specs.Entry.{Entry}
-use Rattle.rules.specs.Table.{at, occupied}
+use Rattle.rules.specs.Table.{at, occupiedPlaces}
 use Rattle.rules.specs.Give.{noTask, taskAt}
 use Rattle.theory.specs.Run.{unlock}
 use Rattle.theory.specs.Building.{State}
-use Rattle.together.specs.Invariant.{Stage, Owns, Apart, Unfinished, Inv}
+use Rattle.together.specs.Invariant.{InPhase, Owns, Apart, Unfinished, Inv}
 
 pub apart-sym : {t u : Task} → Apart t u → Apart u t
 apart-sym a =
@@ -43,12 +43,12 @@ same-or-not i j = go (eqb j i) refl
 pub record Steps (sh : Shape) (ws : List Word) (ts : List Task) (laid : List Word) (shown : List Entry) (i : ℕ)
     (t′ : Task) (ws′ laid′ : List Word) (shown′ : List Entry) : Type 0 where
   pub plain : State sh laid′ shown′
-  pub places : occupied ws′ ≡ occupied laid′
+  pub places : occupiedPlaces ws′ ≡ occupiedPlaces laid′
   pub small : (p : ℕ) → at ws′ p .remainder < 4096
-  pub stage : Stage sh ws′ laid′ shown′ t′
+  pub stage : InPhase sh ws′ laid′ shown′ t′
   pub others :
-      (u : Task) → Apart (taskAt ts i) u → Stage sh ws laid shown u → Stage sh ws′ laid′ shown′ u
-  pub apart : (u : Task) → Apart (taskAt ts i) u → Stage sh ws laid shown u → Apart t′ u
+      (u : Task) → Apart (taskAt ts i) u → InPhase sh ws laid shown u → InPhase sh ws′ laid′ shown′ u
+  pub apart : (u : Task) → Apart (taskAt ts i) u → InPhase sh ws laid shown u → Apart t′ u
   pub owner :
       (p : ℕ) → at ws′ p .lock ≡ true → Owns t′ p ⊎ ((at ws p .lock ≡ true) × (Owns (taskAt ts i) p → Owns t′ p))
   pub settled :
@@ -86,15 +86,15 @@ inv-update {sh} {ws} {ts} {laid} {shown} i {t′} {ws′} {laid′} {shown′} l
     there : (P : Task → Type 0) (j : ℕ) → j ≢ i → P (taskAt ts j) → P (taskAt (set ts i t′) j)
     there P j n x = subst P (sym (task-other ts i j t′ n)) x
 
-    stage-at : (j : ℕ) → j < length ts → (j ≡ i) ⊎ (j ≢ i) → Stage sh ws′ laid′ shown′ (taskAt (set ts i t′) j)
+    stage-at : (j : ℕ) → j < length ts → (j ≡ i) ⊎ (j ≢ i) → InPhase sh ws′ laid′ shown′ (taskAt (set ts i t′) j)
     stage-at j l (inl e) =
         subst
-        (λ (k : ℕ). Stage sh ws′ laid′ shown′ (taskAt (set ts i t′) k))
+        (λ (k : ℕ). InPhase sh ws′ laid′ shown′ (taskAt (set ts i t′) k))
         (sym e)
-        (here (Stage sh ws′ laid′ shown′) (s .stage))
+        (here (InPhase sh ws′ laid′ shown′) (s .stage))
     stage-at j l (inr n) =
         there
-        (Stage sh ws′ laid′ shown′)
+        (InPhase sh ws′ laid′ shown′)
         j
         n
         (s .others (taskAt ts j) (inv .apart i j lt l (λ e. n (sym e))) (inv .stage j l))

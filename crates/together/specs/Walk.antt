@@ -16,9 +16,9 @@ use Rattle.rules.specs.Lists.{bitOf}
 use Rattle.rules.specs.Word.{Word, zeroWord, lockWord, withLock, isVoid, isZero}
 use Rattle.rules.specs.Shape.{homes, remainders, keys, places, rightGuard}
 use Rattle.rules.specs.Entry.{Entry, split}
-use Rattle.rules.specs.Table.{at, occupied}
+use Rattle.rules.specs.Table.{at, occupiedPlaces}
 use Rattle.rules.specs.Lay.{holds, insert}
-use Rattle.rules.specs.Record.{homePlace, within, atRest, toPhase, withLeft, withRight}
+use Rattle.rules.specs.Record.{homePlaceOf, within, atRest, toPhase, withLeft, withRight}
 use Rattle.rules.specs.Give.{taskAt}
 use Rattle.rules.specs.Phase as phase
 use Rattle.rules.specs.Phase.{Step, to}
@@ -33,7 +33,7 @@ use Rattle.theory.specs.Building.{after-put}
 use Rattle.together.specs.Frames.{Within}
 use Rattle.together.specs.Invariant.{Occupied, LookedLeft, Looked, Owns, by-left, by-right, Reserves, Apart}
 use Rattle.together.specs.Invariant.{Unfinished, Inv}
-use Rattle.together.specs.Invariant.{Moving, Stage, at-rest, at-home, looks-left, looks-right, owns-left}
+use Rattle.together.specs.Invariant.{Moving, InPhase, at-rest, at-home, looks-left, looks-right, owns-left}
 use Rattle.together.specs.Invariant.{owns-both}
 use Rattle.together.specs.Invariant.{has-read, moving, marking, frees-left, frees-right}
 use Rattle.together.specs.Update.{Steps, same-or-not}
@@ -76,7 +76,7 @@ pub record Walked (sh : Shape) (ws : List Word) (ts : List Task) (laid : List Wo
   -- an answer full is given only at a full table, for a key that it does not show
   pub full :
       next .answer ≡ 3 →
-      (taskAt ts i .answer ≡ 3) ⊎ (AllTaken sh (occupied laid) × (holds (split sh (taskAt ts i .key)) shown ≡ false))
+      (taskAt ts i .answer ≡ 3) ⊎ (AllTaken sh (occupiedPlaces laid) × (holds (split sh (taskAt ts i .key)) shown ≡ false))
   pub effect : Effect sh (taskAt ts i) next laid shown laid-after shown-after
 
 -- ---- a step, by its phase's number
@@ -150,7 +150,7 @@ moving-end {ws = ws} {t = t} m = go (m .side) (m .waiting)
 
 pub free-end :
     {sh : Shape} {ws laid : List Word} {shown : List Entry} {t : Task} →
-    7 ≤ t .phase → t .phase ≤ 10 → Stage sh ws laid shown t → FreeEnd ws t × Looked sh ws t
+    7 ≤ t .phase → t .phase ≤ 10 → InPhase sh ws laid shown t → FreeEnd ws t × Looked sh ws t
 free-end a b (at-rest (inl e)) = absurd (omega arith)
 free-end a b (at-rest (inr e)) = absurd (omega arith)
 free-end a b (at-home e k) = absurd (omega arith)
@@ -184,21 +184,21 @@ weight-low u le =
 pub looked-as :
     {sh : Shape} {vs : List Word} (u u′ : Task) →
     u′ .key ≡ u .key → u′ .left ≡ u .left → u′ .right ≡ u .right → Looked sh vs u → Looked sh vs u′
-unfolding homePlace
+unfolding homePlaceOf
 looked-as {sh} {vs} u u′ k l r x =
     record {
       leftward =
           record {
-            below = omega (arith, home, x .leftward .below);
-            taken = λ q a b. x .leftward .taken q (omega arith) (omega (arith, home));
+            below = omega (arith, homeAt, x .leftward .below);
+            taken = λ q a b. x .leftward .taken q (omega arith) (omega (arith, homeAt));
           };
-      above = omega (arith, home, x .above);
+      above = omega (arith, homeAt, x .above);
       inside = omega (arith, x .inside);
-      taken = λ q a b. x .taken q (omega (arith, home)) (omega arith);
+      taken = λ q a b. x .taken q (omega (arith, homeAt)) (omega arith);
     }
   where
-    home : split sh (u′ .key) .home ≡ split sh (u .key) .home
-    home = ap (λ (key : ℕ). split sh key .home) k
+    homeAt : split sh (u′ .key) .homePlace ≡ split sh (u .key) .homePlace
+    homeAt = ap (λ (key : ℕ). split sh key .homePlace) k
 
 module _ {sh : Shape} {ws : List Word} {ts : List Task} {laid : List Word} {shown : List Entry}
     (low : remainders sh ≤ 4096) (inv : Inv sh ws ts laid shown) (i : ℕ) (lt : i < length ts)
@@ -224,8 +224,8 @@ module _ {sh : Shape} {ws : List Word} {ts : List Task} {laid : List Word} {show
     t = taskAt ts i
 
     -- the home's place lies between the guards
-    pub home-inside : t .key < keys sh → (1 ≤ homePlace sh t) × (homePlace sh t ≤ homes sh)
-    unfolding homePlace
+    pub home-inside : t .key < keys sh → (1 ≤ homePlaceOf sh t) × (homePlaceOf sh t ≤ homes sh)
+    unfolding homePlaceOf
     home-inside k =
         let s = split-in-shape sh (t .key) k in
         (s .home-low, s .home-high)
@@ -237,7 +237,7 @@ module _ {sh : Shape} {ws : List Word} {ts : List Task} {laid : List Word} {show
 
     -- a step between phases that own nothing, with no word written
     free-step :
-        (t′ : Task) → t .phase ≤ 4 → t′ .phase ≤ 4 → Stage sh ws laid shown t′ →
+        (t′ : Task) → t .phase ≤ 4 → t′ .phase ≤ 4 → InPhase sh ws laid shown t′ →
         Steps sh ws ts laid shown i t′ ws laid shown
     free-step t′ a b stage =
         still
@@ -255,7 +255,7 @@ module _ {sh : Shape} {ws : List Word} {ts : List Task} {laid : List Word} {show
     quiet-low t′ a b = keeps (weight-low t′ b ∙ sym (weight-low t a))
 
     -- phase 1: a locked home is waited for
-    pub walk-stay : t .phase ≡ 1 → t .key < keys sh → at ws (homePlace sh t) .lock ≡ true → Walked sh ws ts laid shown i
+    pub walk-stay : t .phase ≡ 1 → t .key < keys sh → at ws (homePlaceOf sh t) .lock ≡ true → Walked sh ws ts laid shown i
     unfolding phase.home
     walk-stay p k locked =
         record {
@@ -276,9 +276,9 @@ module _ {sh : Shape} {ws : List Word} {ts : List Task} {laid : List Word} {show
     pub walk-home :
         t .phase ≡ 1 →
         t .key < keys sh →
-        at ws (homePlace sh t) .lock ≡ false →
-        at ws (homePlace sh t) .occupied ≡ true → Walked sh ws ts laid shown i
-    unfolding phase.home homePlace isZero isVoid
+        at ws (homePlaceOf sh t) .lock ≡ false →
+        at ws (homePlaceOf sh t) .occupied ≡ true → Walked sh ws ts laid shown i
+    unfolding phase.home homePlaceOf isZero isVoid
     walk-home p k open-word taken =
         record {
           next = next;
@@ -291,7 +291,7 @@ module _ {sh : Shape} {ws : List Word} {ts : List Task} {laid : List Word} {show
               (omega arith)
               (omega arith)
               p
-              (rw (open-word, occupied-not-void (at ws (homePlace sh t)) taken, taken));
+              (rw (open-word, occupied-not-void (at ws (homePlaceOf sh t)) taken, taken));
           shows = free-step next (omega arith) (omega arith) (looks-left refl k near);
           same-key = refl;
           ends = λ e. absurd (omega arith);
@@ -301,7 +301,7 @@ module _ {sh : Shape} {ws : List Word} {ts : List Task} {laid : List Word} {show
         }
       where
         h : ℕ
-        h = homePlace sh t
+        h = homePlaceOf sh t
 
         next : Task
         next = toPhase 2 (withLeft (h - 1) t)
@@ -317,7 +317,7 @@ module _ {sh : Shape} {ws : List Word} {ts : List Task} {laid : List Word} {show
     pub walk-left-on :
         t .phase ≡ 2 → t .key < keys sh → LookedLeft sh ws t → at ws (t .left) .occupied ≡ true →
         Walked sh ws ts laid shown i
-    unfolding phase.lookLeft homePlace
+    unfolding phase.lookLeft homePlaceOf
     walk-left-on p k x taken =
         record {
           next = next;
@@ -343,14 +343,14 @@ module _ {sh : Shape} {ws : List Word} {ts : List Task} {laid : List Word} {show
               taken = λ q a b. go q b (same-or-not (t .left) q) a;
             }
           where
-            go : (q : ℕ) → q ≤ split sh (t .key) .home → (q ≡ t .left) ⊎ (q ≢ t .left) → t .left - 1 < q → Occupied ws q
+            go : (q : ℕ) → q ≤ split sh (t .key) .homePlace → (q ≡ t .left) ⊎ (q ≢ t .left) → t .left - 1 < q → Occupied ws q
             go q b (inl e) a = subst (Occupied ws) (sym e) taken
             go q b (inr n) a = x .taken q (omega arith) b
 
     pub walk-left-stop :
         t .phase ≡ 2 → t .key < keys sh → LookedLeft sh ws t → at ws (t .left) .occupied ≡ false →
         Walked sh ws ts laid shown i
-    unfolding phase.lookLeft homePlace rightGuard
+    unfolding phase.lookLeft homePlaceOf rightGuard
     walk-left-stop p k x free =
         record {
           next = next;
@@ -367,7 +367,7 @@ module _ {sh : Shape} {ws : List Word} {ts : List Task} {laid : List Word} {show
         }
       where
         h : ℕ
-        h = homePlace sh t
+        h = homePlaceOf sh t
 
         next : Task
         next = toPhase 3 (withRight (h + 1) t)
@@ -385,7 +385,7 @@ module _ {sh : Shape} {ws : List Word} {ts : List Task} {laid : List Word} {show
     pub walk-right-on :
         t .phase ≡ 3 → t .key < keys sh → Looked sh ws t → at ws (t .right) .occupied ≡ true →
         Walked sh ws ts laid shown i
-    unfolding phase.lookRight homePlace rightGuard
+    unfolding phase.lookRight homePlaceOf rightGuard
     walk-right-on p k x taken =
         record {
           next = next;
@@ -422,7 +422,7 @@ module _ {sh : Shape} {ws : List Word} {ts : List Task} {laid : List Word} {show
             }
           where
             go :
-                (q : ℕ) → split sh (t .key) .home ≤ q → (q ≡ t .right) ⊎ (q ≢ t .right) → q < t .right + 1 →
+                (q : ℕ) → split sh (t .key) .homePlace ≤ q → (q ≡ t .right) ⊎ (q ≢ t .right) → q < t .right + 1 →
                 Occupied ws q
             go q a (inl e) b = subst (Occupied ws) (sym e) taken
             go q a (inr n) b = x .taken q a (omega arith)
@@ -475,7 +475,7 @@ module _ {sh : Shape} {ws : List Word} {ts : List Task} {laid : List Word} {show
     in-table le = omega (arith, words-size low inv)
 
     -- a word that is 0 has no owner
-    zero-alone : (p : ℕ) → at ws p ≡ zeroWord → (u : Task) → Apart t u → Stage sh ws laid shown u → Owns u p → ⊥
+    zero-alone : (p : ℕ) → at ws p ≡ zeroWord → (u : Task) → Apart t u → InPhase sh ws laid shown u → Owns u p → ⊥
     zero-alone p z u a s o = true≢false (sym (owned-locked p s o) ∙ ap (λ (w : Word). w .lock) z)
 
     pub walk-lock-left :
@@ -529,7 +529,7 @@ module _ {sh : Shape} {ws : List Word} {ts : List Task} {laid : List Word} {show
         was-zero : at ws (t .left) ≡ zeroWord
         was-zero = zero-is (at ws (t .left)) is-zero
 
-        taken : (u : Task) → Apart t u → Stage sh ws laid shown u → (q : ℕ) → Owns next q → Owns u q → ⊥
+        taken : (u : Task) → Apart t u → InPhase sh ws laid shown u → (q : ℕ) → Owns next q → Owns u q → ⊥
         taken u a s q (by-left c d e) v = zero-alone (t .left) was-zero u a s (subst (Owns u) e v)
         taken u a s q (by-right c d e) v = omega arith
 
@@ -578,7 +578,7 @@ module _ {sh : Shape} {ws : List Word} {ts : List Task} {laid : List Word} {show
     stretches-apart :
         (u : Task) →
         Apart t u →
-        Stage sh ws laid shown u →
+        InPhase sh ws laid shown u →
         t .phase ≡ 5 →
         Looked sh ws t →
         at ws (t .left) ≡ lockWord →
@@ -684,7 +684,7 @@ module _ {sh : Shape} {ws : List Word} {ts : List Task} {laid : List Word} {show
         was-zero : at ws (t .right) ≡ zeroWord
         was-zero = zero-is (at ws (t .right)) is-zero
 
-        taken : (u : Task) → Apart t u → Stage sh ws laid shown u → (q : ℕ) → Owns next q → Owns u q → ⊥
+        taken : (u : Task) → Apart t u → InPhase sh ws laid shown u → (q : ℕ) → Owns next q → Owns u q → ⊥
         taken u a s q (by-left c d e) v = a .owners q (by-left (omega arith) (omega arith) e) v
         taken u a s q (by-right c d e) v = zero-alone (t .right) was-zero u a s (subst (Owns u) e v)
 

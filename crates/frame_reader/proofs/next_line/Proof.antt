@@ -169,6 +169,6 @@ next-line-spec 𝓤 H 𝓜 𝓖 𝓡 =
     (tables 𝓤 H 𝓜 𝓡 code.env .C) (tables 𝓤 H 𝓜 𝓡 code.env .Λ) #next-line code.function (code.unfolded 𝓤 H 𝓜 𝓡)
     (next-line-meets 𝓤 H (𝓖 .A) (givenOf 𝓤 H 𝓜 𝓖) (𝓜 .mem) (𝓡 .run) (tablesOf 𝓤 H 𝓜 (tables 𝓤 H 𝓜 𝓡 code.env))
     (cited 𝓤 H (ReaderAt 𝓤 H (𝓖 .A) (𝓜 .mem) (𝓡 .run)) 𝓜 𝓡 code.env #reader-at reader-def.routine
-    code.calls-reader·reader-at (reader-thm.met 𝓤 H 𝓜 𝓖 𝓡))
+    code.calls-frame-reader·reader-at (reader-thm.met 𝓤 H 𝓜 𝓖 𝓡))
     (cited 𝓤 H (PastLine 𝓤 H (𝓖 .A) (𝓜 .mem) (𝓡 .run)) 𝓜 𝓡 code.env #past-line past-def.routine
-    code.calls-reader·past-line (past-thm.met 𝓤 H 𝓜 𝓖 𝓡)))
+    code.calls-frame-reader·past-line (past-thm.met 𝓤 H 𝓜 𝓖 𝓡)))

@@ -156,4 +156,4 @@ past-line-spec 𝓤 H 𝓜 𝓖 𝓡 =
     (tables 𝓤 H 𝓜 𝓡 code.env .C) (tables 𝓤 H 𝓜 𝓡 code.env .Λ) #past-line code.function (code.unfolded 𝓤 H 𝓜 𝓡)
     (past-line-meets 𝓤 H (𝓖 .A) (givenOf 𝓤 H 𝓜 𝓖) (𝓜 .mem) (𝓡 .run) (tablesOf 𝓤 H 𝓜 (tables 𝓤 H 𝓜 𝓡 code.env))
     (cited 𝓤 H (Length 𝓤 H (𝓖 .A) (𝓜 .mem) (𝓡 .run)) 𝓜 𝓡 code.env #length-from length-def.routine
-    code.calls-reader·length-from (length-thm.met 𝓤 H 𝓜 𝓖 𝓡)))
+    code.calls-frame-reader·length-from (length-thm.met 𝓤 H 𝓜 𝓖 𝓡)))

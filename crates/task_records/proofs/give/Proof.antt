@@ -46,7 +46,7 @@ use Rattle.rules.specs.Give as spec
 use Rattle.rules.specs.Give.{noTask, taskAt}
 use Rattle.rules.proofs.Task.{the-row as task}
 use Rattle.rules.proofs.Done.{the-row as done-row}
-use Rattle.task_records.specs.Lent.{giveNone, giveAt, give-none, give-stores}
+use Rattle.task_records.specs.Calls.{giveNone, giveAt, give-none, give-stores}
 use Rattle.task_records.proofs.After.Laws as after-laws
 use Rattle.task_records.proofs.Records.{task-vals, task-tells, task-makes, task-typed, done-makes, done-typed}
 use Rattle.task_records.proofs.Records.{after-tells, after-typed, after-task, after-done, index-fits, index-at}
@@ -229,7 +229,7 @@ give-spec 𝓤 H 𝓜 𝓖 𝓡 =
     entered 𝓤 H (tripleOf 𝓤 H (𝓖 .A) give.signature (give.spec 𝓤 H (𝓖 .A) (𝓜 .mem) (𝓡 .run)))
     (tables 𝓤 H 𝓜 𝓡 code.env .C) (tables 𝓤 H 𝓜 𝓡 code.env .Λ) #give code.function (code.unfolded 𝓤 H 𝓜 𝓡)
     (give-meets 𝓤 H (𝓖 .A) (givenOf 𝓤 H 𝓜 𝓖) (𝓜 .mem) (𝓡 .run) (tablesOf 𝓤 H 𝓜 (tables 𝓤 H 𝓜 𝓡 code.env))
-    (cited 𝓤 H (At 𝓤 H (𝓖 .A) (𝓜 .mem) (𝓡 .run)) 𝓜 𝓡 code.env #at at-def.routine code.calls-records·give-at
+    (cited 𝓤 H (At 𝓤 H (𝓖 .A) (𝓜 .mem) (𝓡 .run)) 𝓜 𝓡 code.env #at at-def.routine code.calls-task-records·give-at
     (at-thm.met 𝓤 H 𝓜 𝓖 𝓡))
-    (cited 𝓤 H (None 𝓤 H (𝓖 .A) (𝓜 .mem) (𝓡 .run)) 𝓜 𝓡 code.env #none none-def.routine code.calls-records·give-none
+    (cited 𝓤 H (None 𝓤 H (𝓖 .A) (𝓜 .mem) (𝓡 .run)) 𝓜 𝓡 code.env #none none-def.routine code.calls-task-records·give-none
     (none-thm.met 𝓤 H 𝓜 𝓖 𝓡)))

@@ -46,7 +46,7 @@ use Rattle.rules.specs.Answer.{doneSays, leaves}
 use Rattle.rules.specs.Give as spec
 use Rattle.rules.proofs.Task.{the-row as task}
 use Rattle.task_records.specs.declared.Kept.{Kept}
-use Rattle.task_records.specs.Lent.{giveNone, giveAll, give-few, give-many}
+use Rattle.task_records.specs.Calls.{giveNone, giveAll, give-few, give-many}
 use Rattle.task_records.proofs.Kept.{the-row as kept}
 use Rattle.task_records.proofs.Records.{task-vals, done-typed}
 use Rattle.task_records.proofs.Front.{Sixteen, slice-at, lends-front, front-back, kept-is, kept-typed, kept-makes}
@@ -237,7 +237,7 @@ give-all-spec 𝓤 H 𝓜 𝓖 𝓡 =
     entered 𝓤 H (tripleOf 𝓤 H (𝓖 .A) all.signature (all.spec 𝓤 H (𝓖 .A) (𝓜 .mem) (𝓡 .run)))
     (tables 𝓤 H 𝓜 𝓡 code.env .C) (tables 𝓤 H 𝓜 𝓡 code.env .Λ) #all code.function (code.unfolded 𝓤 H 𝓜 𝓡)
     (give-all-meets 𝓤 H (𝓖 .A) (givenOf 𝓤 H 𝓜 𝓖) (𝓜 .mem) (𝓡 .run) (tablesOf 𝓤 H 𝓜 (tables 𝓤 H 𝓜 𝓡 code.env))
-    (cited 𝓤 H (Give 𝓤 H (𝓖 .A) (𝓜 .mem) (𝓡 .run)) 𝓜 𝓡 code.env #give give-def.routine code.calls-records·give
+    (cited 𝓤 H (Give 𝓤 H (𝓖 .A) (𝓜 .mem) (𝓡 .run)) 𝓜 𝓡 code.env #give give-def.routine code.calls-task-records·give
     (give-thm.met 𝓤 H 𝓜 𝓖 𝓡))
-    (cited 𝓤 H (None 𝓤 H (𝓖 .A) (𝓜 .mem) (𝓡 .run)) 𝓜 𝓡 code.env #none none-def.routine code.calls-records·give-none
+    (cited 𝓤 H (None 𝓤 H (𝓖 .A) (𝓜 .mem) (𝓡 .run)) 𝓜 𝓡 code.env #none none-def.routine code.calls-task-records·give-none
     (none-thm.met 𝓤 H 𝓜 𝓖 𝓡)))

@@ -1,7 +1,7 @@
 -- `give_at` meets its contract: with at most 16 records the turn of the crate `tasks`, else the answer where there is
 -- none.
 -- Assumes nothing.
-use Rattle.task_records.specs.Lent.{giveAt}
+use Rattle.task_records.specs.Calls.{giveAt}
 use borrow.Author.Tests.{le-leb, lt-leb}
 use mathlib.Core.Path.{_∙_}
 use borrow.Author.Needs.{needs}

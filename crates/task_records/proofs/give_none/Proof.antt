@@ -1,6 +1,6 @@
 -- `give_none` meets its contract: the shape, then the key, then 3.
 -- Assumes nothing.
-use Rattle.task_records.specs.Lent.{giveNone}
+use Rattle.task_records.specs.Calls.{giveNone}
 use Rattle.table_words.specs.Range.{in-range}
 use mathlib.Core.Path.{sym, _∙_}
 use borrow.Author.Needs.{needs}

@@ -1,6 +1,6 @@
 -- `step_none` meets its contract: the table, then 3.
 -- Assumes nothing.
-use Rattle.task_records.specs.Lent.{stepNone}
+use Rattle.task_records.specs.Calls.{stepNone}
 use mathlib.Core.Path.{sym, _∙_}
 use borrow.Author.Needs.{needs}
 use Rattle.task_records.proofs.step_none.Statement.{statement}

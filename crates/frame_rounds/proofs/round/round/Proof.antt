@@ -38,11 +38,11 @@ mul-tasks c = search needs
 array-set-from-tasks : tie.Need-array-set-from-tasks Inv-loop μ-loop
 array-set-from-tasks c = search needs
 
-mul-holds : tie.Need-mul-holds Inv-loop μ-loop
-mul-holds c = search needs
+mul-serving : tie.Need-mul-serving Inv-loop μ-loop
+mul-serving c = search needs
 
-array-write-holds : tie.Need-array-write-holds Inv-loop μ-loop
-array-write-holds c = search needs
+array-write-serving : tie.Need-array-write-serving Inv-loop μ-loop
+array-write-serving c = search needs
 
 add-i : tie.Need-add-i Inv-loop μ-loop
 add-i c = search needs
@@ -76,8 +76,8 @@ round-spec =
     turn-requires
     mul-tasks
     array-set-from-tasks
-    mul-holds
-    array-write-holds
+    mul-serving
+    array-write-serving
     add-i
     loop-less
     loop-again

@@ -25,7 +25,7 @@ abbrev μ-loop : tie.MeasureT-loop
 sub-i : tie.Need-sub-i Inv-loop μ-loop
 sub-i c =
     let start = c .before .before in
-    some-before (wordsOf (now (start .args .table))) (start .args .home .0) (start .pre .1 .0) (start .pre .1 .1)
+    some-before (wordsOf (now (start .args .table))) (start .args .h .0) (start .pre .1 .0) (start .pre .1 .1)
 
 word-at-requires : tie.Need-word-at-requires Inv-loop μ-loop
 word-at-requires c κs = omega arith
@@ -34,10 +34,10 @@ loop-holds : tie.Need-loop-holds Inv-loop μ-loop
 loop-holds c =
     let start = c .before .before .before in
     let bs = now (start .args .table) in
-    let home = start .args .home .0 in
-    let some = some-before (wordsOf bs) home (start .pre .1 .0) (start .pre .1 .1) in
-    let back : home - 1 + 1 ≡ home = omega arith in
-    (c .word-at .ensures, left-begins bs (home - 1) (omega arith) (rw back (start .pre .1 .1)))
+    let homeAt = start .args .h .0 in
+    let some = some-before (wordsOf bs) homeAt (start .pre .1 .0) (start .pre .1 .1) in
+    let back : homeAt - 1 + 1 ≡ homeAt = omega arith in
+    (c .word-at .ensures, left-begins bs (homeAt - 1) (omega arith) (rw back (start .pre .1 .1)))
 
 occupied-requires : tie.Need-occupied-requires Inv-loop μ-loop
 occupied-requires c κs = search needs
@@ -111,9 +111,9 @@ returns c =
     let head = c .before .before in
     let start = head .before .before .before .before in
     let bs = now (start .args .table) in
-    let home = start .args .home .0 in
-    let some = some-before (wordsOf bs) home (start .pre .1 .0) (start .pre .1 .1) in
-    let back : home - 1 + 1 ≡ home = omega arith in
+    let homeAt = start .args .h .0 in
+    let some = some-before (wordsOf bs) homeAt (start .pre .1 .0) (start .pre .1 .1) in
+    let back : homeAt - 1 + 1 ≡ homeAt = omega arith in
     left-ends
     (head .loop .inv .1)
     (head .loop .w)

@@ -10,7 +10,7 @@ use lib.ListN.{length}
 use Rattle.rules.specs.Lists.{bitOf}
 use Rattle.rules.specs.Word.{wordOf}
 use Rattle.rules.specs.Bytes.{wordsOf}
-use Rattle.rules.specs.Table.{at, occupied}
+use Rattle.rules.specs.Table.{at, occupiedPlaces}
 use Rattle.table_cluster.specs.Ends.{Rightward, counted-few, right-from, right-begins, right-on, right-ends}
 use Rattle.table_cluster.proofs.gaps.right_end.Statement.{statement}
 use Rattle.table_cluster.proofs.gaps.right_end.Tie as tie
@@ -25,7 +25,7 @@ abbrev μ-loop : tie.MeasureT-loop
 word-at-requires : tie.Need-word-at-requires Inv-loop μ-loop
 word-at-requires c κs =
     let start = c .before in
-    omega (arith, right-from (occupied (wordsOf (now (start .args .table)))) (start .args .home .0))
+    omega (arith, right-from (occupiedPlaces (wordsOf (now (start .args .table)))) (start .args .h .0))
 
 loop-holds : tie.Need-loop-holds Inv-loop μ-loop
 loop-holds c =
@@ -33,7 +33,7 @@ loop-holds c =
       c .word-at .ensures,
       right-begins
           (now (start .args .table))
-          (start .args .home .0)
+          (start .args .h .0)
           (start .pre .1 .0)
           (start .pre .1 .1 .0)
           (start .pre .1 .1 .1 .0)
@@ -78,7 +78,7 @@ onward :
     let start = head .before .before .before in
     Rightward
     (now (start .args .table))
-    (start .args .home .0)
+    (start .args .h .0)
     (head .loop .i + 1)
     (head .loop .virgins + c .before .before .bit-of .result)
     (head .loop .changes + c .bit-of2 .result)

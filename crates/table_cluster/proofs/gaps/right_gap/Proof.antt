@@ -7,18 +7,18 @@ use native.Mathlib.Omega.{arith}
 use denote.Ref.{now}
 use lib.ListN.{length}
 use Rattle.rules.specs.Bytes.{wordsOf}
-use Rattle.rules.specs.Table.{occupied, rightGap}
+use Rattle.rules.specs.Table.{occupiedPlaces, rightGap}
 use Rattle.theory.specs.Places.{occupied-length}
 use Rattle.table_cluster.specs.Scan.{words-count, right-step, right-stop, right-end}
 use Rattle.table_cluster.proofs.gaps.right_gap.Statement.{statement}
 use Rattle.table_cluster.proofs.gaps.right_gap.Tie as tie
 
 -- the occupied places are as many as the words
-size : (bs : List ℕ) → length (occupied (wordsOf bs)) ≡ length bs / 2
+size : (bs : List ℕ) → length (occupiedPlaces (wordsOf bs)) ≡ length bs / 2
 size bs = occupied-length (wordsOf bs) ∙ words-count bs
 
 abbrev Inv-loop : tie.InvT-loop
-Inv-loop table end i₀ i = rightGap (occupied (wordsOf table)) i ≡ rightGap (occupied (wordsOf table)) i₀
+Inv-loop table end i₀ i = rightGap (occupiedPlaces (wordsOf table)) i ≡ rightGap (occupiedPlaces (wordsOf table)) i₀
 
 abbrev μ-loop : tie.MeasureT-loop
 μ-loop table end i₀ i = end - i
@@ -43,20 +43,20 @@ loop-again c =
     let head = c .before .before .before in
     let bs = now (head .before .before .args .table) in
     let seen = sym (c .before .taken .ensures) ∙ c .if1 .taken in
-    right-step (occupied (wordsOf bs)) (head .loop .i) (omega (arith, size bs)) seen ∙ head .loop .inv
+    right-step (occupiedPlaces (wordsOf bs)) (head .loop .i) (omega (arith, size bs)) seen ∙ head .loop .inv
 
 returns : tie.Need-returns Inv-loop μ-loop
 returns c =
     let head = c .before .before .before in
     let bs = now (head .before .before .args .table) in
     let seen = sym (c .before .taken .ensures) ∙ c .if1 .left in
-    sym (right-stop (occupied (wordsOf bs)) (head .loop .i) (omega (arith, size bs)) seen) ∙ head .loop .inv
+    sym (right-stop (occupiedPlaces (wordsOf bs)) (head .loop .i) (omega (arith, size bs)) seen) ∙ head .loop .inv
 
 returns-2 : tie.Need-returns-2 Inv-loop μ-loop
 returns-2 c =
     let head = c .before in
     let bs = now (head .before .before .args .table) in
-    sym (right-end (occupied (wordsOf bs)) (head .loop .i) (omega (arith, size bs))) ∙ head .loop .inv
+    sym (right-end (occupiedPlaces (wordsOf bs)) (head .loop .i) (omega (arith, size bs))) ∙ head .loop .inv
 
 pub right-gap-spec : {M : Type 1} → statement M
 right-gap-spec =

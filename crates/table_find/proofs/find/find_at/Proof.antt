@@ -20,7 +20,7 @@ use Rattle.table_find.proofs.find.find_at.Tie as tie
 home-bit :
     (tested : tie.After-occupied) (b : Bool) → tested .occupied .result ≡ b →
     let start = tested .before .before .before .before .before in
-    at (wordsOf (now (start .args .table))) (start .args .home .0) .occupied ≡ b
+    at (wordsOf (now (start .args .table))) (start .args .h .0) .occupied ≡ b
 home-bit tested b is =
     sym (ap isOccupied (tested .before .word-at .ensures)) ∙ sym (tested .occupied .ensures) ∙ is
 
@@ -61,7 +61,7 @@ returns-2 c =
     (found-alone
     (start .args .sh)
     (wordsOf bs)
-    (entry (start .args .home .0) (start .args .x))
+    (entry (start .args .h .0) (start .args .x))
     (sym (guarded .before .guards-void .ensures) ∙ guarded .if1 .taken)
     (words-length bs (places (start .args .sh)) (start .pre .1 .0))
     (home-place (start .pre .1 .1))
@@ -74,7 +74,7 @@ returns-3 c =
     (found-barred
     (start .args .sh)
     (wordsOf (now (start .args .table)))
-    (entry (start .args .home .0) (start .args .x))
+    (entry (start .args .h .0) (start .args .x))
     (sym (c .before .guards-void .ensures) ∙ c .if1 .left))
 
 pub find-at-spec : {M : Type 1} → statement M

@@ -3,7 +3,7 @@
 use mathlib.Core.Path.{sym, _∙_, ap}
 use borrow.Author.Needs.{needs}
 use Rattle.table_read.specs.declared.read.Read.{Read}
-use Rattle.table_read.specs.Beside.{begins}
+use Rattle.table_read.specs.FromLeft.{begins}
 use Rattle.table_find.proofs.find.find_beside.Statement.{statement}
 use Rattle.table_find.proofs.find.find_beside.Tie as tie
 

@@ -15,7 +15,7 @@ use Rattle.table_find.specs.Finding.{found-unsound, found-locked, found-
 use Rattle.table_find.proofs.find.find_cluster.Statement.{statement}
 use Rattle.table_find.proofs.find.find_cluster.Tie as tie
 
-crowded : (start : tie.Start) → Crowded (start .args .sh) (now (start .args .table)) (start .args .home .0)
+crowded : (start : tie.Start) → Crowded (start .args .sh) (now (start .args .table)) (start .args .h .0)
 crowded start =
     record {
       range = start .pre .0;
@@ -82,7 +82,7 @@ returns c =
     (found-locked
     (start .args .sh)
     (wordsOf (now (start .args .table)))
-    (entry (start .args .home .0) (start .args .x))
+    (entry (start .args .h .0) (start .args .x))
     (sym (told-sound here l r left right run is) ∙ c .before .if1 .taken)
     (sym (told-locked here l r left right run is) ∙ c .if2 .taken))
 
@@ -95,7 +95,7 @@ returns-2 c =
     let start = ended .before .before .before in
     let here = crowded start in
     let bs = now (start .args .table) in
-    let e = entry (start .args .home .0) (start .args .x) in
+    let e = entry (start .args .h .0) (start .args .x) in
     let l = ended .before .left-end .result in
     let left = ended .before .left-end .ensures in
     let free =
@@ -119,7 +119,7 @@ returns-3 c =
     (found-unsound
     (start .args .sh)
     (wordsOf (now (start .args .table)))
-    (entry (start .args .home .0) (start .args .x))
+    (entry (start .args .h .0) (start .args .x))
     (sym
     (told-sound here (ended .before .left-end .result) (ended .right-end .result) (ended .before .left-end .ensures)
     (ended .right-end .ensures)

@@ -8,8 +8,8 @@ use Rattle.table_move.proofs.hand.fill_at.Tie as tie
 word-at-requires : tie.Need-word-at-requires
 word-at-requires c κs = search needs
 
-with-remainder-requires : tie.Need-with-remainder-requires
-with-remainder-requires c κs = search needs
+filled-with-requires : tie.Need-filled-with-requires
+filled-with-requires c κs = search needs
 
 set-word-requires : tie.Need-set-word-requires
 set-word-requires c κs = search needs
@@ -22,9 +22,9 @@ unfolding fillAt
 returns c =
     let filled = c .before .before in
     let read = filled .before .before .before in
-    rw (filled .set-word .ensures, filled .before .with-remainder .ensures, read .word-at .ensures)
+    rw (filled .set-word .ensures, filled .before .filled-with .ensures, read .word-at .ensures)
 
 pub fill-at-spec : {M : Type 1} → statement M
 fill-at-spec =
     tie.close
-    (tie.spec word-at-requires with-remainder-requires set-word-requires same-length returns)
+    (tie.spec word-at-requires filled-with-requires set-word-requires same-length returns)

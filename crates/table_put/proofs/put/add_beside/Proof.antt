@@ -55,7 +55,7 @@ bring-requires c κs =
       right .right-gap .ensures,
       near .if1 .taken,
       start .pre .1 .0,
-      a .home .last,
+      a .homePlace .last,
       a .remainder,
       a .low,
     )
@@ -94,7 +94,7 @@ bring-requires-2 c κs =
     let start = far .before .before .before in
     let g = start .pre .1 .1 in
     let a = g .addable in
-    omega (arith, reach g, far .if1 .left, start .pre .1 .0, a .home .last, a .remainder, a .low)
+    omega (arith, reach g, far .if1 .left, start .pre .1 .0, a .homePlace .last, a .remainder, a .low)
 
 same-length-3 : tie.Need-same-length-3
 same-length-3 c = search needs

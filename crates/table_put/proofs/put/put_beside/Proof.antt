@@ -7,7 +7,7 @@ use Rattle.rules.specs.Bytes.{wordsOf}
 use Rattle.rules.specs.Shape.{places}
 use Rattle.rules.specs.Table.{clusterEntries}
 use Rattle.table_words.specs.Layout.{words-length}
-use Rattle.table_read.specs.Beside.{begins, Beside}
+use Rattle.table_read.specs.FromLeft.{begins, LeftCounted}
 use Rattle.table_read.specs.Read.{entry, readOf}
 use Rattle.table_read.specs.declared.read.Read.{Read}
 use Rattle.table_find.specs.Around.{Inside, cluster-inside, read-beside, beside-cluster}
@@ -16,12 +16,12 @@ use Rattle.table_put.specs.Putting.{put-inside, ready}
 use Rattle.table_put.proofs.put.put_beside.Statement.{statement}
 use Rattle.table_put.proofs.put.put_beside.Tie as tie
 
-inside : (start : tie.Start) → Inside (start .args .sh) (wordsOf (now (start .args .table))) (start .args .home .0)
+inside : (start : tie.Start) → Inside (start .args .sh) (wordsOf (now (start .args .table))) (start .args .h .0)
 inside start =
     let (i, (free, (full, left))) = start .pre .1 .1 in
     cluster-inside (words-length _ (places (start .args .sh)) (start .pre .1 .0)) (home-place i) full free
 
-beside : (start : tie.Start) → Beside (now (start .args .table)) (start .args .l) (start .args .home .0)
+beside : (start : tie.Start) → LeftCounted (now (start .args .table)) (start .args .l) (start .args .h .0)
 beside start =
     beside-cluster
     _
@@ -38,13 +38,13 @@ reads :
     let start = read .before .before .before .before .before in
     read .read-from .result
     ≡ readOf
-    (entry (start .args .home .0) (start .args .x))
-    (clusterEntries (wordsOf (now (start .args .table))) (start .args .home .0))
+    (entry (start .args .h .0) (start .args .x))
+    (clusterEntries (wordsOf (now (start .args .table))) (start .args .h .0))
 reads read =
     let start = read .before .before .before .before .before in
     read-beside
     _
-    (entry (start .args .home .0) (start .args .x))
+    (entry (start .args .h .0) (start .args .x))
     (start .pre .0)
     (start .pre .1 .0)
     (inside start)
@@ -71,7 +71,7 @@ returns c =
     let (i, (free, (full, left))) = start .pre .1 .1 in
     let size = words-length (now (start .args .table)) (places (start .args .sh)) (start .pre .1 .0) in
     rw
-    (put-inside _ _ (entry (start .args .home .0) (start .args .x)) (start .pre .0) i size free full)
+    (put-inside _ _ (entry (start .args .h .0) (start .args .x)) (start .pre .0) i size free full)
     (rw (sym (ap (λ (a : Read). a .held) (reads (c .before))) ∙ c .if1 .taken))
 
 add-beside-requires : tie.Need-add-beside-requires
@@ -81,7 +81,7 @@ add-beside-requires c κs =
     let (i, (free, (full, left))) = start .pre .1 .1 in
     let size = words-length (now (start .args .table)) (places (start .args .sh)) (start .pre .1 .0) in
     let g =
-    ready _ _ (entry (start .args .home .0) (start .args .x)) (start .pre .0) i size free full left (reads read)
+    ready _ _ (entry (start .args .h .0) (start .args .x)) (start .pre .0) i size free full left (reads read)
     (c .before .if1 .left) in
     (start .pre .0, (start .pre .1 .0, g))
 
@@ -97,7 +97,7 @@ returns-2 c =
     let (i, (free, (full, left))) = start .pre .1 .1 in
     let size = words-length (now (start .args .table)) (places (start .args .sh)) (start .pre .1 .0) in
     rw
-    (put-inside _ _ (entry (start .args .home .0) (start .args .x)) (start .pre .0) i size free full)
+    (put-inside _ _ (entry (start .args .h .0) (start .args .x)) (start .pre .0) i size free full)
     (rw (sym (ap (λ (a : Read). a .held) (reads (test .before))) ∙ test .if1 .left) (added .add-beside .ensures))
 
 pub put-beside-spec : {M : Type 1} → statement M

@@ -22,14 +22,14 @@ use Rattle.table_put.proofs.put.put_clean_at.Tie as tie
 home-bit :
     (tested : tie.After-occupied) (b : Bool) → tested .occupied .result ≡ b →
     let start = tested .before .before .before .before in
-    at (wordsOf (now (start .args .table))) (start .args .home .0) .occupied ≡ b
+    at (wordsOf (now (start .args .table))) (start .args .h .0) .occupied ≡ b
 home-bit tested b is =
     sym (ap isOccupied (tested .before .word-at .ensures)) ∙ sym (tested .occupied .ensures) ∙ is
 
-free : (start : tie.Start) → Open (start .args .sh) (wordsOf (now (start .args .table))) (start .args .home .0)
+free : (start : tie.Start) → Open (start .args .sh) (wordsOf (now (start .args .table))) (start .args .h .0)
 free start =
     clean-open
-    (entry (start .args .home .0) (start .args .x))
+    (entry (start .args .h .0) (start .args .x))
     (start .pre .0)
     (start .pre .1 .1 .0)
     (start .pre .1 .1 .1)
@@ -87,7 +87,7 @@ returns-2 c =
     (put-alone
     _
     _
-    (entry (start .args .home .0) (start .args .x))
+    (entry (start .args .h .0) (start .args .x))
     (start .pre .0)
     (start .pre .1 .1 .0)
     size

@@ -13,7 +13,7 @@ use Rattle.table_put.specs.Putting.{put-unsound, put-locked}
 use Rattle.table_put.proofs.put.put_cluster.Statement.{statement}
 use Rattle.table_put.proofs.put.put_cluster.Tie as tie
 
-crowded : (start : tie.Start) → Crowded (start .args .sh) (now (start .args .table)) (start .args .home .0)
+crowded : (start : tie.Start) → Crowded (start .args .sh) (now (start .args .table)) (start .args .h .0)
 crowded start =
     record {
       range = start .pre .0;
@@ -71,7 +71,7 @@ returns c =
     rw (put-locked
     _
     _
-    (entry (start .args .home .0) (start .args .x))
+    (entry (start .args .h .0) (start .args .x))
     (start .pre .0)
     (start .pre .1 .1 .0)
     (words-length (now (start .args .table)) (places (start .args .sh)) (start .pre .1 .0))
@@ -114,7 +114,7 @@ returns-3 c =
     rw (put-unsound
     _
     _
-    (entry (start .args .home .0) (start .args .x))
+    (entry (start .args .h .0) (start .args .x))
     (start .pre .0)
     (start .pre .1 .1 .0)
     (words-length (now (start .args .table)) (places (start .args .sh)) (start .pre .1 .0))

@@ -2,7 +2,7 @@
 -- Assumes nothing.
 use mathlib.Core.Path.{_∙_}
 use borrow.Author.Needs.{needs}
-use Rattle.table_read.specs.Beside.{right-few, start-right, left-few, start-left, start-is}
+use Rattle.table_read.specs.FromLeft.{right-few, start-right, left-few, start-left, start-is}
 use Rattle.table_read.proofs.read.group_start.Statement.{statement}
 use Rattle.table_read.proofs.read.group_start.Tie as tie
 

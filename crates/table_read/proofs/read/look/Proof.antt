@@ -12,14 +12,14 @@ add-t6 : tie.Need-add-t6
 add-t6 c = search needs
 
 returns : tie.Need-returns
-returns c = λ (home : ℕ). sym (look-below _ _ _ (omega arith) (omega arith) (c .before .if1 .taken))
+returns c = λ (homeAt : ℕ). sym (look-below _ _ _ (omega arith) (omega arith) (c .before .if1 .taken))
 
 returns-2 : tie.Need-returns-2
-returns-2 c = λ (home : ℕ). sym (look-above _ _ _ (omega arith) (omega arith) (c .if2 .taken))
+returns-2 c = λ (homeAt : ℕ). sym (look-above _ _ _ (omega arith) (omega arith) (c .if2 .taken))
 
 returns-3 : tie.Need-returns-3
 returns-3 c =
-    λ (home : ℕ). sym (look-equal _ _ _ (omega arith) (omega arith) (c .before .if1 .left) (c .if2 .left))
+    λ (homeAt : ℕ). sym (look-equal _ _ _ (omega arith) (omega arith) (c .before .if1 .left) (c .if2 .left))
 
 pub look-spec : {M : Type 1} → statement M
 look-spec = tie.close (tie.spec add-t6 returns returns-2 returns-3)

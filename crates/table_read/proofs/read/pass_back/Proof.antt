@@ -9,7 +9,7 @@ use lib.Seq.{slice}
 use Rattle.rules.specs.Lists.{bitOf, count}
 use Rattle.rules.specs.Bytes.{wordsOf}
 use Rattle.theory.specs.Dealt.{isChange}
-use Rattle.table_read.specs.Beside.{allBut, back-on, back-stop, back-end}
+use Rattle.table_read.specs.FromLeft.{allBut, back-on, back-stop, back-end}
 use Rattle.table_read.proofs.read.pass_back.Statement.{statement}
 use Rattle.table_read.proofs.read.pass_back.Tie as tie
 
@@ -30,7 +30,7 @@ sub-i c = omega arith
 loop-holds : tie.Need-loop-holds Inv-loop μ-loop
 loop-holds c =
     let start = c .before .before in
-    let last : start .args .home .0 - 1 + 1 ≡ start .args .home .0 = omega (arith, start .pre .0) in
+    let last : start .args .h .0 - 1 + 1 ≡ start .args .h .0 = omega (arith, start .pre .0) in
     (omega (arith, start .pre .0), omega arith, rw last (start .pre .1 .1), refl)
 
 word-at-requires : tie.Need-word-at-requires Inv-loop μ-loop
@@ -49,7 +49,7 @@ returns c =
     let head = read .before .before in
     let start = head .before .before .before in
     let bs = now (start .args .table) in
-    let last : start .args .home .0 - 1 + 1 ≡ start .args .home .0 = omega (arith, start .pre .0) in
+    let last : start .args .h .0 - 1 + 1 ≡ start .args .h .0 = omega (arith, start .pre .0) in
     back-stop
     bs
     (start .args .l .0 + 1)
@@ -138,7 +138,7 @@ returns-2 : tie.Need-returns-2 Inv-loop μ-loop
 returns-2 c =
     let head = c .before in
     let start = head .before .before .before in
-    let last : start .args .home .0 - 1 + 1 ≡ start .args .home .0 = omega (arith, start .pre .0) in
+    let last : start .args .h .0 - 1 + 1 ≡ start .args .h .0 = omega (arith, start .pre .0) in
     back-end (now (start .args .table)) (start .args .l .0) (head .loop .i) (head .loop .left)
     (head .loop .inv .0)
     (c .loop-test .left)

@@ -5,7 +5,7 @@ use borrow.Author.Needs.{needs}
 use native.Mathlib.Omega.{arith}
 use Rattle.rules.specs.Word.{Word}
 use Rattle.table_read.specs.Read.{entry}
-use Rattle.table_read.specs.Beside.{read-own, read-new}
+use Rattle.table_read.specs.FromLeft.{read-own, read-new}
 use Rattle.table_read.proofs.read.read_from.Statement.{statement}
 use Rattle.table_read.proofs.read.read_from.Tie as tie
 
@@ -33,9 +33,9 @@ returns c =
     let tested = c .before in
     let read = tested .before .before in
     let start = read .before .before .before .before in
-    c .read-group .ensures (start .args .home .0)
+    c .read-group .ensures (start .args .h .0)
     ∙ read-own
-    (entry (start .args .home .0) (start .args .x))
+    (entry (start .args .h .0) (start .args .x))
     (start .pre)
     _
     refl
@@ -46,7 +46,7 @@ returns-2 c =
     let read = c .before .before in
     let start = read .before .before .before .before in
     read-new
-    (entry (start .args .home .0) (start .args .x))
+    (entry (start .args .h .0) (start .args .x))
     (start .pre)
     _
     refl

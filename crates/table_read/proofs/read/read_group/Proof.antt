@@ -25,8 +25,8 @@ Inv-loop table x before seen₀ i₀ w₀ seen i w =
     (seen .smaller ≤ i)
     × (1 ≤ count isChange (wordsFrom table i))
     × (wordOf w ≡ at (wordsOf table) i)
-    × ((home : ℕ) →
-    groupRead (entry home x) seen (wordsFrom table i) ≡ groupRead (entry home x) seen₀ (wordsFrom table i₀))
+    × ((homeAt : ℕ) →
+    groupRead (entry homeAt x) seen (wordsFrom table i) ≡ groupRead (entry homeAt x) seen₀ (wordsFrom table i₀))
 
 abbrev μ-loop : tie.MeasureT-loop
 μ-loop table x before seen₀ i₀ w₀ seen i w = placesOf table - i
@@ -39,7 +39,7 @@ word-at-requires c κs =
 loop-holds : tie.Need-loop-holds Inv-loop μ-loop
 loop-holds c =
     let start = c .before .before in
-    (start .pre .1, start .pre .0, c .word-at .ensures, λ (home : ℕ). refl)
+    (start .pre .1, start .pre .0, c .word-at .ensures, λ (homeAt : ℕ). refl)
 
 change-requires : tie.Need-change-requires Inv-loop μ-loop
 change-requires c κs = search needs
@@ -93,8 +93,8 @@ loop-again c =
       ),
       ends-later bs (head .loop .i) (head .loop .inv .1) (head .loop .w) (head .loop .inv .2) goes,
       c .word-at2 .ensures,
-      λ (home : ℕ).
-          rw (looked .look .ensures home)
+      λ (homeAt : ℕ).
+          rw (looked .look .ensures homeAt)
           (group-goes
           bs
           (head .loop .i)
@@ -103,12 +103,12 @@ loop-again c =
           (omega arith)
           (head .loop .w)
           (head .loop .inv .2)
-          (entry home (start .args .x))
+          (entry homeAt (start .args .x))
           (head .loop .seen)
           (looked .before .remainder .result)
           (looked .before .remainder .ensures)
           goes)
-          ∙ head .loop .inv .3 home,
+          ∙ head .loop .inv .3 homeAt,
     )
 
 remainder-requires-2 : tie.Need-remainder-requires-2 Inv-loop μ-loop
@@ -130,9 +130,9 @@ returns c =
     let head = tested .before .before in
     let start = head .before .before .before in
     let bs = now (start .args .table) in
-    λ (home : ℕ).
+    λ (homeAt : ℕ).
     c .read-of .ensures
-    ∙ rw (looked .look2 .ensures home)
+    ∙ rw (looked .look2 .ensures homeAt)
     (group-ends
     bs
     (head .loop .i)
@@ -141,16 +141,16 @@ returns c =
     (omega arith)
     (head .loop .w)
     (head .loop .inv .2)
-    (entry home (start .args .x))
+    (entry homeAt (start .args .x))
     (head .loop .seen)
     (looked .before .remainder2 .result)
     (looked .before .remainder2 .ensures)
     (sym (tested .before .change .ensures) ∙ not-false _ (tested .if1 .left)))
-    ∙ head .loop .inv .3 home
+    ∙ head .loop .inv .3 homeAt
     ∙ ap
     (λ (k : ℕ).
     groupRead
-    (entry home (start .args .x))
+    (entry homeAt (start .args .x))
     (record { held = false; smaller = k; grouped = false; largest = true })
     (wordsFrom bs (start .args .p .0)))
     (sym (zero-add (start .args .before)))

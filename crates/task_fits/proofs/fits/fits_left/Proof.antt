@@ -2,7 +2,7 @@
 -- Assumes nothing.
 use borrow.Author.Needs.{needs}
 use borrow.Author.Tests.{le-leb, lt-leb}
-use Rattle.rules.specs.Record.{homePlace}
+use Rattle.rules.specs.Record.{homePlaceOf}
 use Rattle.task_fits.proofs.fits.fits_left.Statement.{statement}
 use Rattle.task_fits.proofs.fits.fits_left.Tie as tie
 
@@ -10,7 +10,7 @@ home-place-requires : tie.Need-home-place-requires
 home-place-requires c κs = search needs
 
 returns : tie.Need-returns
-unfolding homePlace
+unfolding homePlaceOf
 returns c =
     rw (le-leb 2 (c .before .before .before .before .before .args .t .phase) (c .before .before .before .if1 .taken))
     (rw (c .before .before .home-place .ensures))

@@ -4,7 +4,7 @@ use borrow.Author.Needs.{needs}
 use native.Mathlib.Omega.{arith}
 use native.Mathlib.Numerals.{add-one}
 use borrow.Author.Tests.{le-leb, lt-leb}
-use Rattle.rules.specs.Record.{homePlace}
+use Rattle.rules.specs.Record.{homePlaceOf}
 use Rattle.table_words.specs.Range.{homes-high}
 use Rattle.table_words.specs.Split.{split-in-shape}
 use Rattle.task_fits.proofs.fits.fits_right.Statement.{statement}
@@ -16,7 +16,7 @@ home-place-requires c κs = search needs
 add-within : tie.Need-add-within
 add-within c =
     let start = c .before .before .before .before in
-    let home = split-in-shape (start .args .sh) (start .args .t .key) (start .pre .1) in
+    let homeAt = split-in-shape (start .args .sh) (start .args .t .key) (start .pre .1) in
     omega (arith, homes-high (start .args .sh) (start .pre .0))
 
 right-guard-requires : tie.Need-right-guard-requires
@@ -26,7 +26,7 @@ within-requires : tie.Need-within-requires
 within-requires c κs = search needs
 
 returns : tie.Need-returns
-unfolding homePlace
+unfolding homePlaceOf
 returns c =
     rw (
       le-leb 3 (c .before .before .before .before .before .before .args .t .phase)

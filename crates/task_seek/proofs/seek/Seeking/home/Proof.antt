@@ -7,7 +7,7 @@ use Rattle.rules.specs.Word.{wordOf, isZero}
 use Rattle.rules.specs.Bytes.{wordsOf}
 use Rattle.rules.specs.Entry.{split}
 use Rattle.rules.specs.Table.{at}
-use Rattle.rules.specs.Record.{homePlace}
+use Rattle.rules.specs.Record.{homePlaceOf}
 use Rattle.rules.specs.Phase.{home}
 use Rattle.task_fits.specs.Taken.{tells}
 use Rattle.task_fits.specs.Ready.{home-low, home-inside, remainder-small}
@@ -18,7 +18,7 @@ home-place-requires : tie.Need-home-place-requires
 home-place-requires c κs = search needs
 
 word-at-requires : tie.Need-word-at-requires
-unfolding homePlace
+unfolding homePlaceOf
 word-at-requires c κs = rw (c .before .home-place .ensures) (home-inside (c .before .before .before .before .pre))
 
 -- what is read is the home's word
@@ -26,8 +26,8 @@ home-word :
     (c : tie.After-word-at) →
     let start = c .before .before .before .before .before in
     wordOf (c .word-at .result) ≡ at (wordsOf (now (start .args .table)))
-    (homePlace (start .args .sh) (start .args .self .0))
-unfolding homePlace
+    (homePlaceOf (start .args .sh) (start .args .self .0))
+unfolding homePlaceOf
 home-word c = rw (← c .before .before .home-place .ensures) (c .word-at .ensures)
 
 lock-requires : tie.Need-lock-requires
@@ -52,7 +52,7 @@ alone-word-requires c κs =
     (remainder-small (c .before .before .before .before .before .before .before .before .before .before .pre))
 
 set-word-requires : tie.Need-set-word-requires
-unfolding homePlace
+unfolding homePlaceOf
 set-word-requires c κs =
     rw (c .before .before .before .before .before .before .before .before .before .home-place .ensures)
     (home-inside
@@ -62,7 +62,7 @@ same-length-2 : tie.Need-same-length-2
 same-length-2 c = search needs
 
 returns-2 : tie.Need-returns-2
-unfolding home homePlace split
+unfolding home homePlaceOf split
 returns-2 c =
     let tested = c .before .before .before .before .before .before .before in
     let unlocked = tested .before .before in
@@ -77,7 +77,7 @@ occupied-requires : tie.Need-occupied-requires
 occupied-requires c κs = search needs
 
 sub-t24 : tie.Need-sub-t24
-unfolding homePlace
+unfolding homePlaceOf
 sub-t24 c =
     rw (c .before .before .before .before .before .before .before .before .before .home-place .ensures)
     (home-low (c .before .before .before .before .before .before .before .before .before .before .before .before .pre))
@@ -86,7 +86,7 @@ same-length-3 : tie.Need-same-length-3
 same-length-3 c = search needs
 
 returns-3 : tie.Need-returns-3
-unfolding home homePlace
+unfolding home homePlaceOf
 returns-3 c =
     let tested = c .before .before in
     let zero = tested .before .before in

@@ -3,7 +3,7 @@
 use borrow.Author.Needs.{needs}
 use native.Mathlib.Omega.{arith}
 use Rattle.rules.specs.Phase.{lookLeft}
-use Rattle.rules.specs.Record.{homePlace}
+use Rattle.rules.specs.Record.{homePlaceOf}
 use Rattle.task_fits.specs.Taken.{tells}
 use Rattle.task_fits.specs.Ready.{left-inside, occupied-positive, home-small}
 use Rattle.task_seek.proofs.seek.Seeking.look_left.Statement.{statement}
@@ -31,11 +31,11 @@ home-place-requires : tie.Need-home-place-requires
 home-place-requires c κs = search needs
 
 add-t17 : tie.Need-add-t17
-unfolding homePlace
+unfolding homePlaceOf
 add-t17 c = omega (arith, home-small (c .before .before .before .before .before .before .before .pre))
 
 returns-2 : tie.Need-returns-2
-unfolding lookLeft homePlace
+unfolding lookLeft homePlaceOf
 returns-2 c =
     let read = c .before .before .before in
     rw (tells (λ w. w .occupied) (read .occupied .ensures) (read .before .word-at .ensures)

@@ -2,7 +2,7 @@
 -- Assumes nothing.
 use borrow.Author.Needs.{needs}
 use native.Mathlib.Omega.{arith}
-use Rattle.rules.specs.Record.{homePlace}
+use Rattle.rules.specs.Record.{homePlaceOf}
 use Rattle.rules.specs.Phase.{mark}
 use Rattle.task_fits.specs.Ready.{home-inside, goal-inside, hand-bounds}
 use Rattle.task_settle.proofs.settle.Settling.mark.Statement.{statement}
@@ -12,7 +12,7 @@ home-place-requires : tie.Need-home-place-requires
 home-place-requires c κs = search needs
 
 mark-requires : tie.Need-mark-requires
-unfolding homePlace
+unfolding homePlaceOf
 mark-requires c κs =
     let ready = c .before .before .before .before .pre in
     let bounds = hand-bounds ready (omega arith) (omega arith) in
@@ -23,7 +23,7 @@ same-length : tie.Need-same-length
 same-length c = search needs
 
 returns : tie.Need-returns
-unfolding mark homePlace
+unfolding mark homePlaceOf
 returns c = rw (c .before .before .mark .ensures, c .before .before .before .home-place .ensures)
 
 pub mark-spec : {M : Type 1} → statement M

@@ -5,10 +5,10 @@ use borrow.Author.Needs.{needs}
 use native.Mathlib.Omega.{arith}
 use mathlib.Core.Path.{sym, _∙_}
 use Rattle.rules.specs.Entry.{split}
-use Rattle.rules.specs.Record.{homePlace}
+use Rattle.rules.specs.Record.{homePlaceOf}
 use Rattle.rules.specs.Phase.{read}
 use Rattle.table_read.specs.Read.{readOf}
-use Rattle.table_read.specs.Beside.{begins}
+use Rattle.table_read.specs.FromLeft.{begins}
 use Rattle.task_settle.specs.Reading.{after-entries, goal-small, home-taken, left-beside, left-read}
 use Rattle.task_fits.specs.Ready.{home-inside, guard-free}
 use Rattle.task_settle.proofs.settle.Settling.read.Statement.{statement}
@@ -24,7 +24,7 @@ remainder-of-requires : tie.Need-remainder-of-requires
 remainder-of-requires c κs = search needs
 
 left-end-requires : tie.Need-left-end-requires
-unfolding homePlace
+unfolding homePlaceOf
 left-end-requires c κs =
     let ready = c .before .before .before .before .before .before .pre in
     let can = sym (c .before .before .before .readable .ensures) ∙ c .before .before .if1 .taken in
@@ -34,8 +34,8 @@ group-start-requires : tie.Need-group-start-requires
 group-start-requires c κs =
     let ready = c .before .before .before .before .before .before .before .pre in
     let can = sym (c .before .before .before .before .readable .ensures) ∙ c .before .before .before .if1 .taken in
-    let home = c .before .before .home-place .ensures in
-    rw home (left-beside ready can _ (rw home at (c .left-end .ensures)))
+    let homeAt = c .before .before .home-place .ensures in
+    rw homeAt (left-beside ready can _ (rw homeAt at (c .left-end .ensures)))
 
 read-from-requires : tie.Need-read-from-requires
 read-from-requires c κs =
@@ -43,9 +43,9 @@ read-from-requires c κs =
     let can =
     sym (c .before .before .before .before .before .readable .ensures)
     ∙ c .before .before .before .before .if1 .taken in
-    let home = c .before .before .before .home-place .ensures in
-    let beside = left-beside ready can _ (rw home at (c .before .left-end .ensures)) in
-    rw home (begins beside _ (rw home at (c .group-start .ensures)))
+    let homeAt = c .before .before .before .home-place .ensures in
+    let beside = left-beside ready can _ (rw homeAt at (c .before .left-end .ensures)) in
+    rw homeAt (begins beside _ (rw homeAt at (c .group-start .ensures)))
 
 after-read-requires : tie.Need-after-read-requires
 unfolding readOf split
@@ -54,9 +54,9 @@ after-read-requires c κs =
     let can =
     sym (c .before .before .before .before .before .before .readable .ensures)
     ∙ c .before .before .before .before .before .if1 .taken in
-    let home = c .before .before .before .before .home-place .ensures in
-    let here = left-read ready can _ (rw home at (c .before .before .left-end .ensures)) in
-    rw (c .read-from .ensures, home, c .before .before .before .remainder-of .ensures, here)
+    let homeAt = c .before .before .before .before .home-place .ensures in
+    let here = left-read ready can _ (rw homeAt at (c .before .before .left-end .ensures)) in
+    rw (c .read-from .ensures, homeAt, c .before .before .before .remainder-of .ensures, here)
     (ready .range, goal-small ready (omega arith) _)
 
 returns : tie.Need-returns
@@ -66,10 +66,10 @@ returns c =
     let can =
     sym (c .before .before .before .before .before .before .before .readable .ensures)
     ∙ c .before .before .before .before .before .before .if1 .taken in
-    let home = c .before .before .before .before .before .home-place .ensures in
-    let here = left-read ready can _ (rw home at (c .before .before .before .left-end .ensures)) in
+    let homeAt = c .before .before .before .before .before .home-place .ensures in
+    let here = left-read ready can _ (rw homeAt at (c .before .before .before .left-end .ensures)) in
     let remainder = c .before .before .before .before .remainder-of .ensures in
-    rw can (rw (c .after-read .ensures, c .before .read-from .ensures, home, remainder) (rw (here, after-entries)))
+    rw can (rw (c .after-read .ensures, c .before .read-from .ensures, homeAt, remainder) (rw (here, after-entries)))
 
 returns-2 : tie.Need-returns-2
 unfolding read

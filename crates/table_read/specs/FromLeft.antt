@@ -97,88 +97,88 @@ back-end bs l i k low high = rw (run-end bs (l + 1) (i + 1) (omega arith)) (omeg
 
 -- ---- the group of a home
 -- a left end, its bits counted up to the home, and a word for each group that is passed over or read
-pub record Beside (bs : List ℕ) (l : End) (home : ℕ) : Type 0 where
-  pub before : l .gap .0 < home
-  pub within : 2 * home + 1 < length bs
-  pub small : home < 4294967295
-  pub virgins : l .virgins ≡ count isVirgin (slice (l .gap .0 + 1) home (wordsOf bs))
-  pub changes : l .changes ≡ count isChange (slice (l .gap .0 + 1) home (wordsOf bs))
+pub record LeftCounted (bs : List ℕ) (l : End) (homeAt : ℕ) : Type 0 where
+  pub before : l .gap .0 < homeAt
+  pub within : 2 * homeAt + 1 < length bs
+  pub small : homeAt < 4294967295
+  pub virgins : l .virgins ≡ count isVirgin (slice (l .gap .0 + 1) homeAt (wordsOf bs))
+  pub changes : l .changes ≡ count isChange (slice (l .gap .0 + 1) homeAt (wordsOf bs))
   pub few : l .virgins ≤ count isChange (wordsFrom bs (l .gap .0 + 1))
   pub next :
-      at (wordsOf bs) home .virgin ≡ true → l .virgins + 1 ≤ count isChange (wordsFrom bs (l .gap .0 + 1))
+      at (wordsOf bs) homeAt .virgin ≡ true → l .virgins + 1 ≤ count isChange (wordsFrom bs (l .gap .0 + 1))
 
 -- how many words stand before the home's group: those of the groups of the homes left of it
 abbrev pub groupStart : List ℕ → ℕ → ℕ → ℕ
-groupStart bs l home = passed (wordsFrom bs (l + 1)) (count isVirgin (slice (l + 1) home (wordsOf bs)))
+groupStart bs l homeAt = passed (wordsFrom bs (l + 1)) (count isVirgin (slice (l + 1) homeAt (wordsOf bs)))
 
 -- the home's group begins at place p, or would; if the home is one, the group's end is in the table
-pub record Begins (bs : List ℕ) (l p home : ℕ) : Type 0 where
-  pub within : 2 * home + 1 < length bs
-  pub place : p ≡ l + 1 + groupStart bs l home
-  pub ends : at (wordsOf bs) home .virgin ≡ true → 1 ≤ count isChange (wordsFrom bs p)
+pub record Begins (bs : List ℕ) (l p homeAt : ℕ) : Type 0 where
+  pub within : 2 * homeAt + 1 < length bs
+  pub place : p ≡ l + 1 + groupStart bs l homeAt
+  pub ends : at (wordsOf bs) homeAt .virgin ≡ true → 1 ≤ count isChange (wordsFrom bs p)
 
-module _ {bs : List ℕ} {l : End} {home : ℕ} (b : Beside bs l home) where
+module _ {bs : List ℕ} {l : End} {homeAt : ℕ} (b : LeftCounted bs l homeAt) where
   abbrev first : ℕ
   first = l .gap .0 + 1
 
-  parts : wordsFrom bs first ≡ slice first home (wordsOf bs) ++ wordsFrom bs home
+  parts : wordsFrom bs first ≡ slice first homeAt (wordsOf bs) ++ wordsFrom bs homeAt
   parts =
-      split-run bs (placesOf bs) (omega arith) (home - first) first home refl (omega (arith, b .before))
+      split-run bs (placesOf bs) (omega arith) (homeAt - first) first homeAt refl (omega (arith, b .before))
       (omega (arith, b .within, b .small))
 
-  pub right-few : l .changes < l .virgins → l .virgins - l .changes ≤ count isChange (wordsFrom bs home)
+  pub right-few : l .changes < l .virgins → l .virgins - l .changes ≤ count isChange (wordsFrom bs homeAt)
   right-few more-homes =
       omega (
         arith,
         b .few,
         b .changes,
         ap (count isChange) parts,
-        counts isChange (slice first home (wordsOf bs)) (wordsFrom bs home),
+        counts isChange (slice first homeAt (wordsOf bs)) (wordsFrom bs homeAt),
       )
 
   pub start-right :
       l .changes < l .virgins →
-      home + passed (wordsFrom bs home) (l .virgins - l .changes) ≡ first + passed (wordsFrom bs first) (l .virgins)
+      homeAt + passed (wordsFrom bs homeAt) (l .virgins - l .changes) ≡ first + passed (wordsFrom bs first) (l .virgins)
   start-right more-homes =
       omega (
         arith,
         b .before,
-        length-slice first home (wordsOf bs) (omega (arith, b .within, words-count bs)),
+        length-slice first homeAt (wordsOf bs) (omega (arith, b .within, words-count bs)),
         ap (λ (ws : List Word). passed ws (l .virgins)) parts,
-        passed-beyond (slice first home (wordsOf bs)) (wordsFrom bs home) (l .virgins - l .changes) (l .virgins)
+        passed-beyond (slice first homeAt (wordsOf bs)) (wordsFrom bs homeAt) (l .virgins - l .changes) (l .virgins)
             (omega arith)
             (omega (arith, b .changes)),
       )
 
-  pub left-few : l .changes - l .virgins ≤ count isChange (slice first home (wordsOf bs))
+  pub left-few : l .changes - l .virgins ≤ count isChange (slice first homeAt (wordsOf bs))
   left-few = omega (arith, b .changes)
 
   pub start-left :
       l .virgins ≤ l .changes →
-      first + allBut (l .changes - l .virgins) (slice first home (wordsOf bs))
+      first + allBut (l .changes - l .virgins) (slice first homeAt (wordsOf bs))
       ≡ first + passed (wordsFrom bs first) (l .virgins)
   start-left more-groups =
-      let all : count isChange (slice first home (wordsOf bs)) - (l .changes - l .virgins) ≡ l .virgins =
+      let all : count isChange (slice first homeAt (wordsOf bs)) - (l .changes - l .virgins) ≡ l .virgins =
       omega (arith, b .changes) in
       omega (
         arith,
-        ap (passed (slice first home (wordsOf bs))) all,
+        ap (passed (slice first homeAt (wordsOf bs))) all,
         ap (λ (ws : List Word). passed ws (l .virgins)) parts,
-        passed-front (slice first home (wordsOf bs)) (wordsFrom bs home) (l .virgins) (omega (arith, b .changes)),
+        passed-front (slice first homeAt (wordsOf bs)) (wordsFrom bs homeAt) (l .virgins) (omega (arith, b .changes)),
       )
 
   -- the groups of the homes left of it, as they are counted
-  pub start-is : first + passed (wordsFrom bs first) (l .virgins) ≡ first + groupStart bs (l .gap .0) home
+  pub start-is : first + passed (wordsFrom bs first) (l .virgins) ≡ first + groupStart bs (l .gap .0) homeAt
   start-is = ap (λ (k : ℕ). first + passed (wordsFrom bs first) k) (b .virgins)
 
   -- there the home's group begins, if the home is one
-  pub begins : (p : ℕ) → p ≡ first + groupStart bs (l .gap .0) home → Begins bs (l .gap .0) p home
+  pub begins : (p : ℕ) → p ≡ first + groupStart bs (l .gap .0) homeAt → Begins bs (l .gap .0) p homeAt
   begins p place =
       record {
         within = b .within;
         place = place;
         ends =
-            λ (virgin : at (wordsOf bs) home .virgin ≡ true).
+            λ (virgin : at (wordsOf bs) homeAt .virgin ≡ true).
             rw
             (place ∙ sym start-is, sym (drop-drop n first (take (placesOf bs) (wordsOf bs))))
             (omega (arith, b .next virgin, passed-left (wordsFrom bs first) (l .virgins) (b .few)));
@@ -190,30 +190,30 @@ module _ {bs : List ℕ} {l : End} {home : ℕ} (b : Beside bs l home) where
 -- ---- what is read
 unfoldable pub readFrom : List ℕ → ℕ → Entry → Read
 readFrom bs l e =
-    cond (at (wordsOf bs) (e .home) .virgin)
-    (groupRead e (more (groupStart bs l (e .home)) unseen) (wordsFrom bs (l + 1 + groupStart bs l (e .home))))
-    (readSeen (more (groupStart bs l (e .home)) unseen))
+    cond (at (wordsOf bs) (e .homePlace) .virgin)
+    (groupRead e (more (groupStart bs l (e .homePlace)) unseen) (wordsFrom bs (l + 1 + groupStart bs l (e .homePlace))))
+    (readSeen (more (groupStart bs l (e .homePlace)) unseen))
 
 -- as the code has it, with so many words before the place p
-module _ {bs : List ℕ} {l p : ℕ} (e : Entry) (b : Begins bs l p (e .home)) (n : ℕ) (way : n ≡ p - (l + 1)) where
-  words-before : n ≡ groupStart bs l (e .home)
+module _ {bs : List ℕ} {l p : ℕ} (e : Entry) (b : Begins bs l p (e .homePlace)) (n : ℕ) (way : n ≡ p - (l + 1)) where
+  words-before : n ≡ groupStart bs l (e .homePlace)
   words-before = omega (arith, b .place, way)
 
   pub read-own :
-      at (wordsOf bs) (e .home) .virgin ≡ true → groupRead e (more n unseen) (wordsFrom bs p) ≡ readFrom bs l e
+      at (wordsOf bs) (e .homePlace) .virgin ≡ true → groupRead e (more n unseen) (wordsFrom bs p) ≡ readFrom bs l e
   unfolding readFrom
   read-own virgin =
       rw virgin (ap₂ (λ (k i : ℕ). groupRead e (more k unseen) (wordsFrom bs i)) words-before (b .place))
 
   pub read-new :
-      at (wordsOf bs) (e .home) .virgin ≡ false →
+      at (wordsOf bs) (e .homePlace) .virgin ≡ false →
       record { held = false; smaller = n; mark = 2 } ≡ readFrom bs l e
   unfolding readFrom
   read-new none =
-      let all : n ≡ 0 + groupStart bs l (e .home) = omega (arith, words-before) in
+      let all : n ≡ 0 + groupStart bs l (e .homePlace) = omega (arith, words-before) in
       rw none (ap (λ (k : ℕ). record { held = false; smaller = k; mark = 2 }) all)
 
-module _ (e : Entry) (bs : List ℕ) (l r : ℕ) (after-l : l < e .home) (before-r : e .home < r)
+module _ (e : Entry) (bs : List ℕ) (l r : ℕ) (after-l : l < e .homePlace) (before-r : e .homePlace < r)
     (within : 2 * r ≤ length bs) (small : r ≤ 4294967295) (housed : Housed (between (wordsOf bs) l r))
   where
     -- the run, the words left of the home, the homes among them, and the words of their groups
@@ -221,7 +221,7 @@ module _ (e : Entry) (bs : List ℕ) (l r : ℕ) (after-l : l < e .home) (before
     run = slice (l + 1) r (wordsOf bs)
 
     abbrev left : List Word
-    left = slice (l + 1) (e .home) (wordsOf bs)
+    left = slice (l + 1) (e .homePlace) (wordsOf bs)
 
     abbrev homes : ℕ
     homes = count isVirgin left
@@ -229,8 +229,8 @@ module _ (e : Entry) (bs : List ℕ) (l r : ℕ) (after-l : l < e .home) (before
     abbrev words : ℕ
     words = passed run homes
 
-    cut : run ≡ left ++ slice (e .home) r (wordsOf bs)
-    cut = split-run bs r within (e .home - (l + 1)) (l + 1) (e .home) refl (omega arith) (omega arith)
+    cut : run ≡ left ++ slice (e .homePlace) r (wordsOf bs)
+    cut = split-run bs r within (e .homePlace - (l + 1)) (l + 1) (e .homePlace) refl (omega arith) (omega arith)
 
     -- the words to the end of the table begin with the run
     beyond : (a : ℕ) → a ≤ r → wordsFrom bs a ≡ slice a r (wordsOf bs) ++ wordsFrom bs r
@@ -239,32 +239,32 @@ module _ (e : Entry) (bs : List ℕ) (l r : ℕ) (after-l : l < e .home) (before
     owed : Owed (virginPlaces (l + 1) run) run
     owed = rw add-one (housed-owed (suc l) (between (wordsOf bs) l r) housed)
 
-    split-homes : virginPlaces (l + 1) run ≡ virginPlaces (l + 1) left ++ homesFrom (wordsOf bs) r (e .home)
+    split-homes : virginPlaces (l + 1) run ≡ virginPlaces (l + 1) left ++ homesFrom (wordsOf bs) r (e .homePlace)
     split-homes =
-        let size : l + 1 + length left ≡ e .home =
-        omega (arith, length-slice (l + 1) (e .home) (wordsOf bs) (omega (arith, words-count bs))) in
+        let size : l + 1 + length left ≡ e .homePlace =
+        omega (arith, length-slice (l + 1) (e .homePlace) (wordsOf bs) (omega (arith, words-count bs))) in
         ap (virginPlaces (l + 1)) cut
-        ∙ virgins-append (l + 1) left (slice (e .home) r (wordsOf bs))
-        ∙ ap (λ (n : ℕ). virginPlaces (l + 1) left ++ virginPlaces n (slice (e .home) r (wordsOf bs))) size
+        ∙ virgins-append (l + 1) left (slice (e .homePlace) r (wordsOf bs))
+        ∙ ap (λ (n : ℕ). virginPlaces (l + 1) left ++ virginPlaces n (slice (e .homePlace) r (wordsOf bs))) size
 
-    low : Below (e .home) (virginPlaces (l + 1) left)
+    low : Below (e .homePlace) (virginPlaces (l + 1) left)
     low =
         virgins-below
-        (e .home)
+        (e .homePlace)
         (l + 1)
         left
-        (omega (arith, length-slice (l + 1) (e .home) (wordsOf bs) (omega (arith, words-count bs))))
+        (omega (arith, length-slice (l + 1) (e .homePlace) (wordsOf bs) (omega (arith, words-count bs))))
 
-    high : Above (e .home) (homesFrom (wordsOf bs) r (e .home + 1))
-    high = virgins-above (e .home) (e .home + 1) (slice (e .home + 1) r (wordsOf bs)) (omega arith)
+    high : Above (e .homePlace) (homesFrom (wordsOf bs) r (e .homePlace + 1))
+    high = virgins-above (e .homePlace) (e .homePlace + 1) (slice (e .homePlace + 1) r (wordsOf bs)) (omega arith)
 
-    past : Passed e unseen words (virginPlaces (l + 1) left) (homesFrom (wordsOf bs) r (e .home)) run
+    past : Passed e unseen words (virginPlaces (l + 1) left) (homesFrom (wordsOf bs) r (e .homePlace)) run
     past =
         rw
         (← virgin-count (l + 1) left)
         (pass-groups
         e
-        (homesFrom (wordsOf bs) r (e .home))
+        (homesFrom (wordsOf bs) r (e .homePlace))
         run
         unseen
         (virginPlaces (l + 1) left)
@@ -272,7 +272,7 @@ module _ (e : Entry) (bs : List ℕ) (l r : ℕ) (after-l : l < e .home) (before
         (rw split-homes at owed))
 
     rest :
-        after e (more words unseen) (deal (homesFrom (wordsOf bs) r (e .home)) (drop words run))
+        after e (more words unseen) (deal (homesFrom (wordsOf bs) r (e .homePlace)) (drop words run))
         ≡ readOf e (entriesBetween (wordsOf bs) l r)
     rest =
         sym (past .same)
@@ -283,16 +283,16 @@ module _ (e : Entry) (bs : List ℕ) (l r : ℕ) (after-l : l < e .home) (before
     all-homes : count isVirgin run ≡ count isChange run
     all-homes = rw add-one (housed .as-many)
 
-    run-homes : count isVirgin run ≡ homes + count isVirgin (slice (e .home) r (wordsOf bs))
-    run-homes = ap (count isVirgin) cut ∙ counts isVirgin left (slice (e .home) r (wordsOf bs))
+    run-homes : count isVirgin run ≡ homes + count isVirgin (slice (e .homePlace) r (wordsOf bs))
+    run-homes = ap (count isVirgin) cut ∙ counts isVirgin left (slice (e .homePlace) r (wordsOf bs))
 
-    same-start : groupStart bs l (e .home) ≡ words
+    same-start : groupStart bs l (e .homePlace) ≡ words
     same-start =
         ap (λ (ws : List Word). passed ws homes) (beyond (l + 1) (omega arith))
         ∙ passed-front run (wordsFrom bs r) homes (omega (arith, all-homes, run-homes))
 
     new-read :
-        at (wordsOf bs) (e .home) .virgin ≡ false →
+        at (wordsOf bs) (e .homePlace) .virgin ≡ false →
         readSeen (more words unseen) ≡ readOf e (entriesBetween (wordsOf bs) l r)
     new-read none =
         sym
@@ -301,13 +301,13 @@ module _ (e : Entry) (bs : List ℕ) (l r : ℕ) (after-l : l < e .home) (before
         (more words unseen)
         _
         _
-        (rw (← home-passed bs (e .home) r before-r within none) high)
+        (rw (← home-passed bs (e .homePlace) r before-r within none) high)
         (past .owed))
         ∙ rest
 
-    module _ (virgin : at (wordsOf bs) (e .home) .virgin ≡ true) where
-      first-home : homesFrom (wordsOf bs) r (e .home) ≡ e .home ∷ homesFrom (wordsOf bs) r (e .home + 1)
-      first-home = home-met bs (e .home) r before-r within virgin
+    module _ (virgin : at (wordsOf bs) (e .homePlace) .virgin ≡ true) where
+      first-home : homesFrom (wordsOf bs) r (e .homePlace) ≡ e .homePlace ∷ homesFrom (wordsOf bs) r (e .homePlace + 1)
+      first-home = home-met bs (e .homePlace) r before-r within virgin
 
       from-here : drop words run ≡ slice (l + 1 + words) r (wordsOf bs)
       from-here = drop-drop words (l + 1) (take r (wordsOf bs))
@@ -323,17 +323,17 @@ module _ (e : Entry) (bs : List ℕ) (l r : ℕ) (after-l : l < e .home) (before
           ap (groupRead e (more words unseen)) (beyond (l + 1 + words) (omega (arith, inside)))
           ∙ group-front e (slice (l + 1 + words) r (wordsOf bs)) (wordsFrom bs r) (more words unseen) group-there-is
           ∙ ap (groupRead e (more words unseen)) (sym from-here)
-          ∙ sym (read-group e (homesFrom (wordsOf bs) r (e .home + 1)) _ (more words unseen) high
+          ∙ sym (read-group e (homesFrom (wordsOf bs) r (e .homePlace + 1)) _ (more words unseen) high
           (rw first-home at (past .owed)))
           ∙ ap (λ (gs : List ℕ). after e (more words unseen) (deal gs (drop words run))) (sym first-home)
           ∙ rest
 
     pub read-from : readFrom bs l e ≡ readOf e (entriesBetween (wordsOf bs) l r)
     unfolding readFrom
-    read-from = rw same-start (go (at (wordsOf bs) (e .home) .virgin) refl)
+    read-from = rw same-start (go (at (wordsOf bs) (e .homePlace) .virgin) refl)
       where
         go :
-            (b : Bool) → at (wordsOf bs) (e .home) .virgin ≡ b →
+            (b : Bool) → at (wordsOf bs) (e .homePlace) .virgin ≡ b →
             cond b
             (groupRead e (more words unseen) (wordsFrom bs (l + 1 + words)))
             (readSeen (more words unseen))
@@ -344,7 +344,7 @@ module _ (e : Entry) (bs : List ℕ) (l r : ℕ) (after-l : l < e .home) (before
     -- so a left end with its bits counted is one to read from
     pub housed-beside :
         (end : End) → end .gap .0 ≡ l → end .virgins ≡ homes → end .changes ≡ count isChange left →
-        Beside bs end (e .home)
+        LeftCounted bs end (e .homePlace)
     unfolding count
     housed-beside end here virgins-are changes-are =
         let all = ap (count isChange) (beyond (l + 1) (omega arith)) ∙ counts isChange run (wordsFrom bs r) in
@@ -356,7 +356,7 @@ module _ (e : Entry) (bs : List ℕ) (l r : ℕ) (after-l : l < e .home) (before
           changes = rw here changes-are;
           few = rw here (omega (arith, all, all-homes, run-homes, virgins-are));
           next =
-              λ (v : at (wordsOf bs) (e .home) .virgin ≡ true).
+              λ (v : at (wordsOf bs) (e .homePlace) .virgin ≡ true).
               rw here
               (omega (
                 arith,
@@ -364,7 +364,7 @@ module _ (e : Entry) (bs : List ℕ) (l r : ℕ) (after-l : l < e .home) (before
                 all-homes,
                 run-homes,
                 virgins-are,
-                ap (count isVirgin) (run-step bs (e .home) r before-r within),
+                ap (count isVirgin) (run-step bs (e .homePlace) r before-r within),
                 ap bitOf v,
               ));
         }

@@ -29,15 +29,15 @@ pub record Hand (ks answers : List ℕ) (taken h : ℕ) (t : Task) : Type 0 wher
   pub its-key : getD ks h 0 ≡ t .key
   pub unanswered : getD answers h 0 ≡ 0
 
-pub record Beside (ks : List ℕ) (f : Floor) (accepted : List ℕ) (said : List Said) : Type 0 where
+pub record Tally (ks : List ℕ) (f : Floor) (accepted : List ℕ) (said : List Said) : Type 0 where
   pub as-many : length (f .answers) ≡ length ks
-  pub one-each : length (f .holds) ≡ length (f .tasks)
+  pub one-each : length (f .serving) ≡ length (f .tasks)
   pub enough : f .taken ≤ length ks
   pub hand :
       (i : ℕ) →
       i < length (f .tasks) →
       atRest (taskAt (f .tasks) i) ≡ false →
-      Hand ks (f .answers) (f .taken) (getD (f .holds) i 0) (taskAt (f .tasks) i)
+      Hand ks (f .answers) (f .taken) (getD (f .serving) i 0) (taskAt (f .tasks) i)
   -- no two busy tasks hold one number
   pub apart :
       (i j : ℕ) →
@@ -45,12 +45,12 @@ pub record Beside (ks : List ℕ) (f : Floor) (accepted : List ℕ) (said : List
       j < length (f .tasks) →
       i ≢ j →
       atRest (taskAt (f .tasks) i) ≡ false →
-      atRest (taskAt (f .tasks) j) ≡ false → getD (f .holds) i 0 ≢ getD (f .holds) j 0
+      atRest (taskAt (f .tasks) j) ≡ false → getD (f .serving) i 0 ≢ getD (f .serving) j 0
   -- what is not taken has no answer
   pub later : (j : ℕ) → f .taken ≤ j → getD (f .answers) j 0 ≡ 0
   -- the accepted keys are those taken, and the answers said are those of the line, both up to their order
   pub accepts : (p : ℕ → Bool) → count p accepted ≡ count p (take (f .taken) ks)
-  pub says : (p : Said → Bool) → count (answeredSo p) (paired ks (f .answers)) ≡ count p said
+  pub answered-so : (p : Said → Bool) → count (answeredSo p) (paired ks (f .answers)) ≡ count p said
 
 -- ---- the start
 replicate-zero : (n j : ℕ) → _≡_ {A = ℕ} (getD (replicate n 0) j 0) 0
@@ -64,7 +64,7 @@ idle-at : (n i : ℕ) → i < n → atRest (taskAt (replicate n noTask) i) ≡ t
 unfolding atRest
 idle-at n i lt = ap (λ (t : Task). eqb (t .phase) 0 || eqb (t .phase) 13) (getD-replicate n i noTask noTask lt)
 
-pub beside-start : (bytes : List ℕ) (n : ℕ) (ks : List ℕ) → Beside ks (start bytes n ks) [] []
+pub beside-start : (bytes : List ℕ) (n : ℕ) (ks : List ℕ) → Tally ks (start bytes n ks) [] []
 unfolding start count
 beside-start bytes n ks =
     record {
@@ -75,7 +75,7 @@ beside-start bytes n ks =
       apart = λ i j lt l n busy other. absurd (never i lt busy);
       later = λ j le. replicate-zero (length ks) j;
       accepts = λ p. refl;
-      says = λ p. paired-start p ks;
+      answered-so = λ p. paired-start p ks;
     }
   where
     never : (i : ℕ) → i < length (replicate n noTask) → atRest (taskAt (replicate n noTask) i) ≡ false → ⊥
@@ -87,19 +87,19 @@ took ks i f =
     record {
       table = f .table;
       tasks = set (f .tasks) i (given (getD ks (f .taken) 0));
-      holds = set (f .holds) i (f .taken);
+      serving = set (f .serving) i (f .taken);
       taken = suc (f .taken);
       answers = f .answers;
     }
 
-module _ {ks : List ℕ} {f : Floor} {accepted : List ℕ} {said : List Said} (b : Beside ks f accepted said) (i : ℕ)
+module _ {ks : List ℕ} {f : Floor} {accepted : List ℕ} {said : List Said} (b : Tally ks f accepted said) (i : ℕ)
     (lt : i < length (f .tasks)) (more : f .taken < length ks)
   where
     abbrev t : Task
     t = given (getD ks (f .taken) 0)
 
-    new-number : getD (set (f .holds) i (f .taken)) i 0 ≡ f .taken
-    new-number = getD-set-same (f .holds) i (f .taken) 0 (omega (arith, b .one-each))
+    new-number : getD (set (f .serving) i (f .taken)) i 0 ≡ f .taken
+    new-number = getD-set-same (f .serving) i (f .taken) 0 (omega (arith, b .one-each))
 
     under : (j : ℕ) → j < length (set (f .tasks) i t) → j < length (f .tasks)
     under j l = omega (arith, length-set (f .tasks) i t)
@@ -110,16 +110,16 @@ module _ {ks : List ℕ} {f : Floor} {accepted : List ℕ} {said : List Said} (b
         j < length (f .tasks) →
         j ≢ i →
         atRest (taskAt (set (f .tasks) i t) j) ≡ false →
-        Hand ks (f .answers) (f .taken) (getD (set (f .holds) i (f .taken)) j 0) (taskAt (set (f .tasks) i t) j)
+        Hand ks (f .answers) (f .taken) (getD (set (f .serving) i (f .taken)) j 0) (taskAt (set (f .tasks) i t) j)
     other-hand j l n busy =
-        rw (task-other (f .tasks) i j t n, getD-set-other (f .holds) i j (f .taken) 0 n)
+        rw (task-other (f .tasks) i j t n, getD-set-other (f .serving) i j (f .taken) 0 n)
         (b .hand j l (sym (ap atRest (task-other (f .tasks) i j t n)) ∙ busy))
 
     -- all but the one that takes a key hold a lower number
     lower :
         (j : ℕ) →
         j < length (f .tasks) →
-        j ≢ i → atRest (taskAt (set (f .tasks) i t) j) ≡ false → getD (set (f .holds) i (f .taken)) j 0 < f .taken
+        j ≢ i → atRest (taskAt (set (f .tasks) i t) j) ≡ false → getD (set (f .serving) i (f .taken)) j 0 < f .taken
     lower j l n busy = other-hand j l n busy .low
 
     hand-after :
@@ -127,7 +127,7 @@ module _ {ks : List ℕ} {f : Floor} {accepted : List ℕ} {said : List Said} (b
         j < length (f .tasks) →
         atRest (taskAt (set (f .tasks) i t) j) ≡ false →
         (j ≡ i) ⊎ (j ≢ i) →
-        Hand ks (f .answers) (suc (f .taken)) (getD (set (f .holds) i (f .taken)) j 0) (taskAt (set (f .tasks) i t) j)
+        Hand ks (f .answers) (suc (f .taken)) (getD (set (f .serving) i (f .taken)) j 0) (taskAt (set (f .tasks) i t) j)
     unfolding given
     hand-after j l busy (inl e) =
         rw (e, new-number, task-same (f .tasks) i t lt)
@@ -144,12 +144,12 @@ module _ {ks : List ℕ} {f : Floor} {accepted : List ℕ} {said : List Said} (b
         atRest (taskAt (set (f .tasks) i t) j) ≡ false →
         atRest (taskAt (set (f .tasks) i t) k) ≡ false →
         (j ≡ i) ⊎ (j ≢ i) →
-        (k ≡ i) ⊎ (k ≢ i) → getD (set (f .holds) i (f .taken)) j 0 ≢ getD (set (f .holds) i (f .taken)) k 0
+        (k ≡ i) ⊎ (k ≢ i) → getD (set (f .serving) i (f .taken)) j 0 ≢ getD (set (f .serving) i (f .taken)) k 0
     apart-after j k l m n x y (inl d) (inl e) same = n (d ∙ sym e)
     apart-after j k l m n x y (inl d) (inr e) same =
-        omega (arith, lower k m e y, ap (λ (q : ℕ). getD (set (f .holds) i (f .taken)) q 0) d, new-number)
+        omega (arith, lower k m e y, ap (λ (q : ℕ). getD (set (f .serving) i (f .taken)) q 0) d, new-number)
     apart-after j k l m n x y (inr d) (inl e) same =
-        omega (arith, lower j l d x, ap (λ (q : ℕ). getD (set (f .holds) i (f .taken)) q 0) e, new-number)
+        omega (arith, lower j l d x, ap (λ (q : ℕ). getD (set (f .serving) i (f .taken)) q 0) e, new-number)
     apart-after j k l m n x y (inr d) (inr e) same =
         b .apart
         j
@@ -159,7 +159,7 @@ module _ {ks : List ℕ} {f : Floor} {accepted : List ℕ} {said : List Said} (b
         n
         (sym (ap atRest (task-other (f .tasks) i j t d)) ∙ x)
         (sym (ap atRest (task-other (f .tasks) i k t e)) ∙ y)
-        (sym (getD-set-other (f .holds) i j (f .taken) 0 d) ∙ same ∙ getD-set-other (f .holds) i k (f .taken) 0 e)
+        (sym (getD-set-other (f .serving) i j (f .taken) 0 d) ∙ same ∙ getD-set-other (f .serving) i k (f .taken) 0 e)
 
     accepts-after :
         (p : ℕ → Bool) → count p (getD ks (f .taken) 0 ∷ accepted) ≡ count p (take (suc (f .taken)) ks)
@@ -172,19 +172,19 @@ module _ {ks : List ℕ} {f : Floor} {accepted : List ℕ} {said : List Said} (b
           count-append p (take (f .taken) ks) (getD ks (f .taken) 0 ∷ []),
         )
 
-    pub beside-take : Beside ks (took ks i f) (getD ks (f .taken) 0 ∷ accepted) said
+    pub beside-take : Tally ks (took ks i f) (getD ks (f .taken) 0 ∷ accepted) said
     beside-take =
         record {
           as-many = b .as-many;
           one-each =
-              length-set (f .holds) i (f .taken) ∙ b .one-each ∙ sym (length-set (f .tasks) i t);
+              length-set (f .serving) i (f .taken) ∙ b .one-each ∙ sym (length-set (f .tasks) i t);
           enough = more;
           hand = λ j l busy. hand-after j (under j l) busy (same-or-not i j);
           apart = λ j k l m n x y.
               apart-after j k (under j l) (under k m) n x y (same-or-not i j) (same-or-not i k);
           later = λ j le. b .later j (omega arith);
           accepts = accepts-after;
-          says = b .says;
+          answered-so = b .answered-so;
         }
 
 -- ---- a step made
@@ -194,17 +194,17 @@ stepped i t bytes f =
     record {
       table = bytes;
       tasks = set (f .tasks) i t;
-      holds = f .holds;
+      serving = f .serving;
       taken = f .taken;
-      answers = cond (eqb (t .phase) 13) (set (f .answers) (getD (f .holds) i 0) (t .answer)) (f .answers);
+      answers = cond (eqb (t .phase) 13) (set (f .answers) (getD (f .serving) i 0) (t .answer)) (f .answers);
     }
 
-module _ {ks : List ℕ} {f : Floor} {accepted : List ℕ} {said : List Said} (b : Beside ks f accepted said) (i : ℕ)
+module _ {ks : List ℕ} {f : Floor} {accepted : List ℕ} {said : List Said} (b : Tally ks f accepted said) (i : ℕ)
     (lt : i < length (f .tasks)) (works : atRest (taskAt (f .tasks) i) ≡ false) (t : Task)
     (same-key : t .key ≡ taskAt (f .tasks) i .key) (bytes : List ℕ)
   where
     abbrev number : ℕ
-    number = getD (f .holds) i 0
+    number = getD (f .serving) i 0
 
     mine : Hand ks (f .answers) (f .taken) number (taskAt (f .tasks) i)
     mine = b .hand i lt works
@@ -225,7 +225,7 @@ module _ {ks : List ℕ} {f : Floor} {accepted : List ℕ} {said : List Said} (b
         k < length (set (f .tasks) i t) →
         j ≢ k →
         atRest (taskAt (set (f .tasks) i t) j) ≡ false →
-        atRest (taskAt (set (f .tasks) i t) k) ≡ false → getD (f .holds) j 0 ≢ getD (f .holds) k 0
+        atRest (taskAt (set (f .tasks) i t) k) ≡ false → getD (f .serving) j 0 ≢ getD (f .serving) k 0
     still-apart j k l m n x y =
         b .apart j k (below j l) (below k m) n (was-busy j x (same-or-not i j)) (was-busy k y (same-or-not i k))
 
@@ -235,7 +235,7 @@ module _ {ks : List ℕ} {f : Floor} {accepted : List ℕ} {said : List Said} (b
         j < length (f .tasks) →
         atRest (taskAt (set (f .tasks) i t) j) ≡ false →
         (j ≡ i) ⊎ (j ≢ i) →
-        Hand ks (f .answers) (f .taken) (getD (f .holds) j 0) (taskAt (set (f .tasks) i t) j)
+        Hand ks (f .answers) (f .taken) (getD (f .serving) j 0) (taskAt (set (f .tasks) i t) j)
     hand-on j l busy (inl e) =
         rw (e, task-same (f .tasks) i t lt)
         (record {
@@ -247,12 +247,12 @@ module _ {ks : List ℕ} {f : Floor} {accepted : List ℕ} {said : List Said} (b
         rw (task-other (f .tasks) i j t n) (b .hand j l (was-busy j busy (inr n)))
 
     beside-on :
-        Beside
+        Tally
         ks
         (record {
           table = bytes;
           tasks = set (f .tasks) i t;
-          holds = f .holds;
+          serving = f .serving;
           taken = f .taken;
           answers = f .answers;
         })
@@ -267,7 +267,7 @@ module _ {ks : List ℕ} {f : Floor} {accepted : List ℕ} {said : List Said} (b
           apart = still-apart;
           later = b .later;
           accepts = b .accepts;
-          says = b .says;
+          answered-so = b .answered-so;
         }
 
     -- the step leaves it done: its key has its answer
@@ -288,7 +288,7 @@ module _ {ks : List ℕ} {f : Floor} {accepted : List ℕ} {said : List Said} (b
           j < length (f .tasks) →
           atRest (taskAt (set (f .tasks) i t) j) ≡ false →
           (j ≡ i) ⊎ (j ≢ i) →
-          Hand ks answers-done (f .taken) (getD (f .holds) j 0) (taskAt (set (f .tasks) i t) j)
+          Hand ks answers-done (f .taken) (getD (f .serving) j 0) (taskAt (set (f .tasks) i t) j)
       hand-done j l busy (inl e) =
           absurd
           (true≢false
@@ -302,7 +302,7 @@ module _ {ks : List ℕ} {f : Floor} {accepted : List ℕ} {said : List Said} (b
             low = h .low;
             its-key = h .its-key;
             unanswered =
-                getD-set-other (f .answers) number (getD (f .holds) j 0) (t .answer) 0 other ∙ h .unanswered;
+                getD-set-other (f .answers) number (getD (f .serving) j 0) (t .answer) 0 other ∙ h .unanswered;
           })
 
       says-done :
@@ -313,7 +313,7 @@ module _ {ks : List ℕ} {f : Floor} {accepted : List ℕ} {said : List Said} (b
           omega (
             arith,
             paired-set (answeredSo p) ks (f .answers) number (t .answer) low-key (omega (arith, b .as-many, low-key)),
-            b .says p,
+            b .answered-so p,
             ap (λ (a : ℕ). bitOf (answeredSo p (record { key = getD ks number 0; answer = a }))) (mine .unanswered),
             new,
           )
@@ -333,12 +333,12 @@ module _ {ks : List ℕ} {f : Floor} {accepted : List ℕ} {said : List Said} (b
               (mine .its-key ∙ sym same-key)
 
       beside-done :
-          Beside
+          Tally
           ks
           (record {
             table = bytes;
             tasks = set (f .tasks) i t;
-            holds = f .holds;
+            serving = f .serving;
             taken = f .taken;
             answers = answers-done;
           })
@@ -355,21 +355,21 @@ module _ {ks : List ℕ} {f : Floor} {accepted : List ℕ} {said : List Said} (b
                 getD-set-other (f .answers) number j (t .answer) 0 (λ e. omega (arith, mine .low))
                 ∙ b .later j le;
             accepts = b .accepts;
-            says = says-done;
+            answered-so = says-done;
           }
 
-    pub beside-step : (t .phase ≡ 13 → 1 ≤ t .answer) → Beside ks (stepped i t bytes f) accepted (heard t said)
+    pub beside-step : (t .phase ≡ 13 → 1 ≤ t .answer) → Tally ks (stepped i t bytes f) accepted (heard t said)
     beside-step known = go (eqb (t .phase) 13) refl
       where
         go :
             (c : Bool) →
             eqb (t .phase) 13 ≡ c →
-            Beside
+            Tally
             ks
             (record {
               table = bytes;
               tasks = set (f .tasks) i t;
-              holds = f .holds;
+              serving = f .serving;
               taken = f .taken;
               answers = cond c (set (f .answers) number (t .answer)) (f .answers);
             })

@@ -11,7 +11,7 @@ use Rattle.rules.specs.Word.{Word}
 use Rattle.rules.specs.Bytes.{wordsOf, bytesOf}
 use Rattle.rules.specs.Shape.{shapeOf, remainders, places, fitsLength, goodTable}
 use Rattle.rules.specs.Entry.{Entry}
-use Rattle.rules.specs.Table.{at, occupied, entries, sound, locked}
+use Rattle.rules.specs.Table.{at, occupiedPlaces, entries, sound, locked}
 use Rattle.rules.specs.Lay.{lay}
 use Rattle.table_words.specs.Range.{InRange, good-table, range-in, remainders-high}
 use Rattle.table_words.specs.Number.{number-small}
@@ -69,7 +69,7 @@ table-small {ws = ws} {es} s t p =
     subst
     (λ (x : ℕ). x < 4096)
     (ap (λ (vs : List Word). at vs p .remainder) (table-lay s t) ∙ ap (λ (w : Word). w .remainder) (at-unlock ws p))
-    (lay-small es 0 (occupied ws) p (every.all-map (λ e w. omega (arith, w .low)) (asc-all (table-asc s t))))
+    (lay-small es 0 (occupiedPlaces ws) p (every.all-map (λ e w. omega (arith, w .low)) (asc-all (table-asc s t))))
 
 pub bytes-small : (ws : List Word) → ((p : ℕ) → at ws p .remainder < 4096) → (i : ℕ) → getD (bytesOf ws) i 0 < 256
 unfolding bytesOf
