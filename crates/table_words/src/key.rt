@@ -1,6 +1,7 @@
 // A key split into home and remainder, and joined again (01, Shape and layout).
 use crate::place::Home;
 use crate::place::Place;
+use crate::place::home_of_place;
 use crate::place::place_of_home;
 use crate::shape::remainders;
 use rules::Shape;
@@ -46,5 +47,5 @@ pub fn join(sh: Shape, h: Place, remainder: u16) -> u32
     requires { ⌜ InRange sh ⌝ ∗ ⌜ InShape sh (record { homePlace = h .0; remainder = remainder }) ⌝ }
     ensures { λ key. ⌜ key ≡ entry.join sh (record { homePlace = h .0; remainder = remainder }) ⌝ }
 {
-    (h.0 - 1) * remainders(sh) + remainder as u32
+    home_of_place(h).0 * remainders(sh) + remainder as u32
 }

@@ -46,6 +46,14 @@ pub fn remainders(sh: Shape) -> u32
     1u32 << sh.r
 }
 
+// How many places there are, both guards included.
+pub fn places(sh: Shape) -> u32
+    requires { ⌜ InRange sh ⌝ }
+    ensures { λ n. ⌜ n ≡ spec.places sh ⌝ }
+{
+    homes(sh) + 2
+}
+
 pub fn right_guard(sh: Shape) -> Place
     requires { ⌜ InRange sh ⌝ }
     ensures { λ p. ⌜ p .0 ≡ rightGuard sh ⌝ }
@@ -57,7 +65,7 @@ pub fn good_table(m: u32, r: u32, len: usize) -> bool
     ensures { λ b. ⌜ b ≡ goodTable (shapeOf m r) len ⌝ }
 {
     if good_shape(m, r) {
-        len == 2 * (homes(shape_of(m, r)) as usize + 2)
+        len == 2 * (places(shape_of(m, r)) as usize)
     } else {
         false
     }

@@ -2,7 +2,7 @@
 -- Assumes nothing.
 use borrow.Author.Needs.{needs}
 use mathlib.Core.Path.{sym, _∙_}
-use Rattle.rules.specs.Shape.{homes, places, fitsLength, goodTable}
+use Rattle.rules.specs.Shape.{fitsLength, goodTable}
 use Rattle.table_words.specs.Range.{in-range}
 use Rattle.table_words.proofs.shape.good_table.Statement.{statement}
 use Rattle.table_words.proofs.shape.good_table.Tie as tie
@@ -13,24 +13,21 @@ good-shape-requires c κs = search needs
 shape-of-requires : tie.Need-shape-of-requires
 shape-of-requires c κs = search needs
 
-homes-requires : tie.Need-homes-requires
-homes-requires c κs =
+places-requires : tie.Need-places-requires
+places-requires c κs =
     rw (c .shape-of .ensures) (in-range _ (sym (c .before .before .good-shape .ensures) ∙ c .before .if1 .taken))
 
 cast-result : tie.Need-cast-result
 cast-result c = search needs
 
-add-result : tie.Need-add-result
-add-result c = search needs
-
 mul-result : tie.Need-mul-result
 mul-result c = search needs
 
 returns : tie.Need-returns
-unfolding goodTable fitsLength places
+unfolding goodTable fitsLength
 returns c =
     rw (sym (c .before .before .before .good-shape .ensures) ∙ c .before .before .if1 .taken)
-    (rw (c .homes .ensures, c .before .shape-of .ensures))
+    (rw (c .places .ensures, c .before .shape-of .ensures))
 
 returns-2 : tie.Need-returns-2
 unfolding goodTable
@@ -42,9 +39,8 @@ good-table-spec =
     (tie.spec
     good-shape-requires
     shape-of-requires
-    homes-requires
+    places-requires
     cast-result
-    add-result
     mul-result
     returns
     returns-2)
