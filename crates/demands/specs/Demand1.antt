@@ -16,7 +16,7 @@ use Rattle.rules.specs.declared.Task.{Task}
 use Rattle.rules.specs.Lists.{all}
 use Rattle.rules.specs.Word.{Word}
 use Rattle.rules.specs.Bytes.{wordsOf, bytesOf}
-use Rattle.rules.specs.Shape.{shapeOf, inRange, keys, goodTable}
+use Rattle.rules.specs.Shape.{inRange, keys, goodTable}
 use Rattle.rules.specs.Entry.{Entry, split}
 use Rattle.rules.specs.Table.{occupiedPlaces, clusterEntries, list, guardsVoid, sound, locked}
 use Rattle.rules.specs.Room.{Room, place, full, roomFor}
@@ -25,9 +25,11 @@ use Rattle.rules.specs.Answer.{says, refuses, Leaves, leaves}
 use Rattle.rules.specs.Find.{soundAround, lockedAround}
 use Rattle.rules.specs.Put.{addAt, Outcome, keeps, writes, addTo, putIn, bytesAfter, put}
 use Rattle.rules.specs.Build.{zeros, puts, tooMany, buildIn, build}
-use Rattle.rules.specs.Listing.{atFront, listIn, listing}
+use Rattle.rules.specs.Listing.{listIn, listing}
+use Rattle.rules.specs.Lists.{atFront}
 use Rattle.rules.specs.Record.{busy, atRest, fits}
-use Rattle.rules.specs.Give.{given, noTask, taskAt, goodTask, giveTo, storedAt, give}
+use Rattle.rules.specs.Give.{given, giveTo, storedAt, give}
+use Rattle.rules.specs.Record.{noTask, taskAt, goodTask}
 use Rattle.rules.specs.Phase.{Step, to, unsound}
 use Rattle.rules.specs.Step.{Stepped, steps, refused, ofPhase, orUnsound, stepOf, lentAfter, step}
 
@@ -79,14 +81,14 @@ orderly-settled bytes (refuses-by n le) = refuse n le
 orderly-settled bytes (finds v) = accept v bytes
 orderly-settled bytes (adds v ws) = accept v (bytesOf ws)
 
-pub put-settles : (m r : ℕ) (bytes : List ℕ) (key : ℕ) → Settled bytes (put m r bytes key)
+pub put-settles : (sh : Shape) (bytes : List ℕ) (key : ℕ) → Settled bytes (put sh bytes key)
 unfolding put
-put-settles m r bytes key =
+put-settles sh bytes key =
     either
-    (goodTable (shapeOf m r) (length bytes))
+    (goodTable sh (length bytes))
     (either
-    (ltb key (keys (shapeOf m r)))
-    (orderly-settled bytes (put-orderly (shapeOf m r) (wordsOf bytes) (split (shapeOf m r) key)))
+    (ltb key (keys sh))
+    (orderly-settled bytes (put-orderly sh (wordsOf bytes) (split sh key)))
     (no 1))
     (no 0)
 
@@ -105,10 +107,10 @@ list-in-settles sh ws slots =
     (no 8)))
     (no 5)
 
-pub list-settles : (m r : ℕ) (bytes slots : List ℕ) → Settled slots (listing m r bytes slots)
+pub list-settles : (sh : Shape) (bytes slots : List ℕ) → Settled slots (listing sh bytes slots)
 unfolding listing
-list-settles m r bytes slots =
-    either (goodTable (shapeOf m r) (length bytes)) (list-in-settles (shapeOf m r) (wordsOf bytes) slots) (no 0)
+list-settles sh bytes slots =
+    either (goodTable sh (length bytes)) (list-in-settles sh (wordsOf bytes) slots) (no 0)
 
 -- ---- give
 stored : (ts : List Task) (i : ℕ) {x : Leaves Task} → Settled (taskAt ts i) x → Settled ts (storedAt ts i x)
@@ -120,13 +122,13 @@ give-to-settles : (t : Task) (key : ℕ) → Settled t (giveTo t key)
 unfolding giveTo
 give-to-settles t key = either (busy t) (no 3) (accept 0 (given key))
 
-pub give-settles : (m r key : ℕ) (tasks : List Task) (i : ℕ) → Settled tasks (give m r key tasks i)
+pub give-settles : (sh : Shape) (key : ℕ) (tasks : List Task) (i : ℕ) → Settled tasks (give sh key tasks i)
 unfolding give
-give-settles m r key tasks i =
+give-settles sh key tasks i =
     either
-    (inRange (shapeOf m r))
+    (inRange sh)
     (either
-    (ltb key (keys (shapeOf m r)))
+    (ltb key (keys sh))
     (either (goodTask tasks i) (stored tasks i (give-to-settles (taskAt tasks i) key)) (no 2))
     (no 1))
     (no 0)
@@ -163,15 +165,15 @@ numbered-settled bytes ts i (goes-on t ws) = accept 0 (record { table = bytesOf 
 numbered-settled bytes ts i (stopped n le) = refuse n le
 
 pub step-settles :
-    (m r : ℕ) (bytes : List ℕ) (tasks : List Task) (i : ℕ) →
-    Settled (record { table = bytes; tasks = tasks }) (step m r bytes tasks i)
+    (sh : Shape) (bytes : List ℕ) (tasks : List Task) (i : ℕ) →
+    Settled (record { table = bytes; tasks = tasks }) (step sh bytes tasks i)
 unfolding step
-step-settles m r bytes tasks i =
+step-settles sh bytes tasks i =
     either
-    (goodTable (shapeOf m r) (length bytes))
+    (goodTable sh (length bytes))
     (either
     (goodTask tasks i)
-    (numbered-settled bytes tasks i (numbered-step (shapeOf m r) (wordsOf bytes) (taskAt tasks i)))
+    (numbered-settled bytes tasks i (numbered-step sh (wordsOf bytes) (taskAt tasks i)))
     (no 2))
     (no 0)
 
@@ -190,15 +192,15 @@ unfolding buildIn
 build-in-settles sh bytes es =
     built-either bytes (tooMany sh es) emptied (settled (accept 0 (bytesOf (puts sh (zeros sh) es))))
 
-pub build-settles : (m r : ℕ) (bytes ks : List ℕ) → Built bytes (build m r bytes ks)
+pub build-settles : (sh : Shape) (bytes ks : List ℕ) → Built bytes (build sh bytes ks)
 unfolding build
-build-settles m r bytes ks =
+build-settles sh bytes ks =
     built-either
     bytes
-    (goodTable (shapeOf m r) (length bytes))
+    (goodTable sh (length bytes))
     (built-either
     bytes
-    (all (λ (key : ℕ). ltb key (keys (shapeOf m r))) ks)
-    (build-in-settles (shapeOf m r) bytes (map (split (shapeOf m r)) ks))
+    (all (λ (key : ℕ). ltb key (keys sh)) ks)
+    (build-in-settles sh bytes (map (split sh) ks))
     (settled (no 1)))
     (settled (no 0))

@@ -12,7 +12,7 @@ use Rattle.rules.specs.declared.Shape.{Shape}
 use Rattle.rules.specs.Lists.{bitOf}
 use Rattle.rules.specs.Word.{Word}
 use Rattle.rules.specs.Bytes.{wordsOf, bytesOf}
-use Rattle.rules.specs.Shape.{shapeOf, remainders, keys, places}
+use Rattle.rules.specs.Shape.{remainders, keys, places}
 use Rattle.rules.specs.Entry.{Entry, split, join, sameEntry}
 use Rattle.rules.specs.Table.{occupiedPlaces, entries, list}
 use Rattle.rules.specs.Room.{place, roomFor}
@@ -46,59 +46,59 @@ pub split-keys : (sh : Shape) {es : List Entry} → All (InShape sh) es → map 
 split-keys sh every.none = refl
 split-keys sh (every.both {x = e} i is) = ap₂ _∷_ (split-join sh e i) (split-keys sh is)
 
-module _ {m r : ℕ} {bytes : List ℕ} where
-  pub in-shape : SoundTable m r bytes → All (InShape (shapeOf m r)) (entries (wordsOf bytes))
-  in-shape t = asc-in-shape (shapeOf m r) (low-of t) (table-inside (shapeOf m r) (low-of t) (size-of t) (table-of t))
+module _ {sh : Shape} {bytes : List ℕ} where
+  pub in-shape : SoundTable sh bytes → All (InShape sh) (entries (wordsOf bytes))
+  in-shape t = asc-in-shape sh (low-of t) (table-inside sh (low-of t) (size-of t) (table-of t))
 
-  pub ascending-list : SoundTable m r bytes → Ascending (keys (shapeOf m r)) 0 (listOf m r bytes)
+  pub ascending-list : SoundTable sh bytes → Ascending (keys sh) 0 (listOf sh bytes)
   unfolding list
   ascending-list t =
       keys-ascend
-      (shapeOf m r)
+      sh
       0
       (low-of t)
-      (table-inside (shapeOf m r) (low-of t) (size-of t) (table-of t))
+      (table-inside sh (low-of t) (size-of t) (table-of t))
       (in-shape t)
       (λ e i le. omega arith)
 
   -- a key is listed exactly if its entry is held
   pub listed-here :
-      SoundTable m r bytes →
+      SoundTable sh bytes →
       (key : ℕ) →
-      key < keys (shapeOf m r) →
-      listed key (listOf m r bytes) ≡ holds (split (shapeOf m r) key) (entries (wordsOf bytes))
+      key < keys sh →
+      listed key (listOf sh bytes) ≡ holds (split sh key) (entries (wordsOf bytes))
   unfolding list
-  listed-here t key lt = listed-holds (shapeOf m r) key lt (in-shape t)
+  listed-here t key lt = listed-holds sh key lt (in-shape t)
 
   pub find-says :
-      PlainTable m r bytes →
+      PlainTable sh bytes →
       (key : ℕ) →
-      key < keys (shapeOf m r) → find m r bytes key ≡ says (bitOf (listed key (listOf m r bytes)))
+      key < keys sh → find sh bytes key ≡ says (bitOf (listed key (listOf sh bytes)))
   unfolding find
   find-says t key lt =
-      rw (t .whole .good, lt-ltb key (keys (shapeOf m r)) lt)
+      rw (t .whole .good, lt-ltb key (keys sh) lt)
       (find-table
-      (shapeOf m r)
-      (split (shapeOf m r) key)
+      sh
+      (split sh key)
       (low-of (t .whole))
       (size-of (t .whole))
-      (home-of-key (shapeOf m r) key lt)
-      (split-in-shape (shapeOf m r) key lt .remainder-low)
+      (home-of-key sh key lt)
+      (split-in-shape sh key lt .remainder-low)
       (table-of (t .whole))
       (t .unlocked)
       ∙ ap (λ (b : Bool). says (bitOf b)) (sym (listed-here (t .whole) key lt)))
 
 pub one-table :
-    {m r : ℕ} {bytes others : List ℕ} →
-    PlainTable m r bytes →
-    PlainTable m r others →
-    occupiedPlaces (wordsOf bytes) ≡ occupiedPlaces (wordsOf others) → listOf m r bytes ≡ listOf m r others → bytes ≡ others
+    {sh : Shape} {bytes others : List ℕ} →
+    PlainTable sh bytes →
+    PlainTable sh others →
+    occupiedPlaces (wordsOf bytes) ≡ occupiedPlaces (wordsOf others) → listOf sh bytes ≡ listOf sh others → bytes ≡ others
 unfolding list
-one-table {m} {r} {bytes} {others} t u places-same list-same =
+one-table {sh} {bytes} {others} t u places-same list-same =
     same-bytes
     bytes
     others
-    (places (shapeOf m r))
+    (places sh)
     (length-of t)
     (length-of u)
     (t .whole .small)
@@ -106,17 +106,17 @@ one-table {m} {r} {bytes} {others} t u places-same list-same =
     (state-unique
     (low-of (t .whole))
     (state-of t)
-    (subst (State (shapeOf m r) (wordsOf others)) (sym entries-same) (state-of u))
+    (subst (State sh (wordsOf others)) (sym entries-same) (state-of u))
     places-same)
   where
-    length-of : {bs : List ℕ} → PlainTable m r bs → length bs ≡ 2 * places (shapeOf m r)
-    length-of {bs} v = good-table (shapeOf m r) (length bs) (v .whole .good) .1
+    length-of : {bs : List ℕ} → PlainTable sh bs → length bs ≡ 2 * places sh
+    length-of {bs} v = good-table sh (length bs) (v .whole .good) .1
 
     entries-same : entries (wordsOf bytes) ≡ entries (wordsOf others)
     entries-same =
-        sym (split-keys (shapeOf m r) (in-shape (t .whole)))
-        ∙ ap (map (split (shapeOf m r))) list-same
-        ∙ split-keys (shapeOf m r) (in-shape (u .whole))
+        sym (split-keys sh (in-shape (t .whole)))
+        ∙ ap (map (split sh)) list-same
+        ∙ split-keys sh (in-shape (u .whole))
 
 -- keys are the same exactly if their entries are
 pub same-split : (sh : Shape) (x key : ℕ) → sameEntry (split sh x) (split sh key) ≡ eqb x key
@@ -137,80 +137,80 @@ same-split sh x key = go (eqb x key) refl
         go′ false s = refl
 
 -- ---- put
-module _ {m r : ℕ} {bytes : List ℕ} (t : PlainTable m r bytes) (key : ℕ) (lt : key < keys (shapeOf m r)) where
+module _ {sh : Shape} {bytes : List ℕ} (t : PlainTable sh bytes) (key : ℕ) (lt : key < keys sh) where
   pub cases :
       Puts
-      (shapeOf m r)
+      sh
       (wordsOf bytes)
       (entries (wordsOf bytes))
-      (split (shapeOf m r) key)
-      (putIn (shapeOf m r) (wordsOf bytes) (split (shapeOf m r) key))
+      (split sh key)
+      (putIn sh (wordsOf bytes) (split sh key))
   cases =
       put-table
-      (shapeOf m r)
-      (split (shapeOf m r) key)
+      sh
+      (split sh key)
       (low-of (t .whole))
       (size-of (t .whole))
-      (home-of-key (shapeOf m r) key lt)
-      (split-in-shape (shapeOf m r) key lt .remainder-low)
+      (home-of-key sh key lt)
+      (split-in-shape sh key lt .remainder-low)
       (table-of (t .whole))
       (t .unlocked)
 
   pub put-by :
-      {o : Outcome} → putIn (shapeOf m r) (wordsOf bytes) (split (shapeOf m r) key) ≡ o →
-      put m r bytes key ≡ bytesAfter bytes o
+      {o : Outcome} → putIn sh (wordsOf bytes) (split sh key) ≡ o →
+      put sh bytes key ≡ bytesAfter bytes o
   unfolding put
-  put-by e = rw (t .whole .good, lt-ltb key (keys (shapeOf m r)) lt, e)
+  put-by e = rw (t .whole .good, lt-ltb key (keys sh) lt, e)
 
-  here : listed key (listOf m r bytes) ≡ holds (split (shapeOf m r) key) (entries (wordsOf bytes))
+  here : listed key (listOf sh bytes) ≡ holds (split sh key) (entries (wordsOf bytes))
   here = listed-here (t .whole) key lt
 
-  pub put-finds : listed key (listOf m r bytes) ≡ true → put m r bytes key ≡ leaves (says 1) bytes
-  put-finds h = go (putIn (shapeOf m r) (wordsOf bytes) (split (shapeOf m r) key)) refl cases
+  pub put-finds : listed key (listOf sh bytes) ≡ true → put sh bytes key ≡ leaves (says 1) bytes
+  put-finds h = go (putIn sh (wordsOf bytes) (split sh key)) refl cases
     where
       go :
           (o : Outcome) →
-          putIn (shapeOf m r) (wordsOf bytes) (split (shapeOf m r) key) ≡ o →
-          Puts (shapeOf m r) (wordsOf bytes) (entries (wordsOf bytes)) (split (shapeOf m r) key) o →
-          put m r bytes key ≡ leaves (says 1) bytes
+          putIn sh (wordsOf bytes) (split sh key) ≡ o →
+          Puts sh (wordsOf bytes) (entries (wordsOf bytes)) (split sh key) o →
+          put sh bytes key ≡ leaves (says 1) bytes
       go o e (found k) = put-by e
       go o e (inserted p k room added) = absurd (true≢false (sym h ∙ here ∙ k))
       go o e (overflow k room) = absurd (true≢false (sym h ∙ here ∙ k))
 
   pub put-full :
-      listed key (listOf m r bytes) ≡ false →
-      AllTaken (shapeOf m r) (occupiedPlaces (wordsOf bytes)) → put m r bytes key ≡ leaves (refuses 8) bytes
-  put-full h every = go (putIn (shapeOf m r) (wordsOf bytes) (split (shapeOf m r) key)) refl cases
+      listed key (listOf sh bytes) ≡ false →
+      AllTaken sh (occupiedPlaces (wordsOf bytes)) → put sh bytes key ≡ leaves (refuses 8) bytes
+  put-full h every = go (putIn sh (wordsOf bytes) (split sh key)) refl cases
     where
       go :
           (o : Outcome) →
-          putIn (shapeOf m r) (wordsOf bytes) (split (shapeOf m r) key) ≡ o →
-          Puts (shapeOf m r) (wordsOf bytes) (entries (wordsOf bytes)) (split (shapeOf m r) key) o →
-          put m r bytes key ≡ leaves (refuses 8) bytes
+          putIn sh (wordsOf bytes) (split sh key) ≡ o →
+          Puts sh (wordsOf bytes) (entries (wordsOf bytes)) (split sh key) o →
+          put sh bytes key ≡ leaves (refuses 8) bytes
       go o e (found k) = absurd (true≢false (sym k ∙ sym here ∙ h))
       go o e (inserted p k room added) =
           absurd
           (place≢full
           (sym room
           ∙ full-room
-          (table-guarded (shapeOf m r) (size-of (t .whole)) (table-of (t .whole)))
-          (home-of-key (shapeOf m r) key lt)
+          (table-guarded sh (size-of (t .whole)) (table-of (t .whole)))
+          (home-of-key sh key lt)
           every))
       go o e (overflow k room) = put-by e
 
   added-adds :
       (p : ℕ) →
-      roomFor (shapeOf m r) (occupiedPlaces (wordsOf bytes)) (split (shapeOf m r) key .homePlace) ≡ place p →
+      roomFor sh (occupiedPlaces (wordsOf bytes)) (split sh key .homePlace) ≡ place p →
       Added
-      (remainders (shapeOf m r))
+      (remainders sh)
       (wordsOf bytes)
       (entries (wordsOf bytes))
-      (split (shapeOf m r) key)
+      (split sh key)
       p
-      (addAt (wordsOf bytes) (split (shapeOf m r) key) p) →
-      putIn (shapeOf m r) (wordsOf bytes) (split (shapeOf m r) key)
-      ≡ writes (says 2) (addAt (wordsOf bytes) (split (shapeOf m r) key) p) →
-      Adds m r bytes key
+      (addAt (wordsOf bytes) (split sh key) p) →
+      putIn sh (wordsOf bytes) (split sh key)
+      ≡ writes (says 2) (addAt (wordsOf bytes) (split sh key) p) →
+      Adds sh bytes key
   added-adds p room added e =
       record {
         after = bytesOf vs;
@@ -218,41 +218,41 @@ module _ {m r : ℕ} {bytes : List ℕ} (t : PlainTable m r bytes) (key : ℕ) (
         named = room;
         answer = put-by e;
         table = plain;
-        places-after = ap occupiedPlaces (words-back m r range state) ∙ added .places;
+        places-after = ap occupiedPlaces (words-back sh range state) ∙ added .places;
         listed-after = λ x small.
             listed-here (plain .whole) x small
-            ∙ ap (holds (split (shapeOf m r) x)) (entries-back m r range state)
-            ∙ holds-insert (split (shapeOf m r) x) (split (shapeOf m r) key) (entries (wordsOf bytes))
-            ∙ ap₂ _||_ (same-split (shapeOf m r) x key) (sym (listed-here (t .whole) x small));
+            ∙ ap (holds (split sh x)) (entries-back sh range state)
+            ∙ holds-insert (split sh x) (split sh key) (entries (wordsOf bytes))
+            ∙ ap₂ _||_ (same-split sh x key) (sym (listed-here (t .whole) x small));
       }
     where
       vs : List Word
-      vs = addAt (wordsOf bytes) (split (shapeOf m r) key) p
+      vs = addAt (wordsOf bytes) (split sh key) p
 
-      range : InRange (shapeOf m r)
+      range : InRange sh
       range = in-range-of (t .whole)
 
-      state : State (shapeOf m r) vs (insert (split (shapeOf m r) key) (entries (wordsOf bytes)))
+      state : State sh vs (insert (split sh key) (entries (wordsOf bytes)))
       state = added-state (state-of t) added
 
-      plain : PlainTable m r (bytesOf vs)
-      plain = plain-of m r range state
+      plain : PlainTable sh (bytesOf vs)
+      plain = plain-of sh range state
 
   pub put-adds :
-      listed key (listOf m r bytes) ≡ false →
-      (AllTaken (shapeOf m r) (occupiedPlaces (wordsOf bytes)) → ⊥) → Adds m r bytes key
-  put-adds h some = go (putIn (shapeOf m r) (wordsOf bytes) (split (shapeOf m r) key)) refl cases
+      listed key (listOf sh bytes) ≡ false →
+      (AllTaken sh (occupiedPlaces (wordsOf bytes)) → ⊥) → Adds sh bytes key
+  put-adds h some = go (putIn sh (wordsOf bytes) (split sh key)) refl cases
     where
       go :
           (o : Outcome) →
-          putIn (shapeOf m r) (wordsOf bytes) (split (shapeOf m r) key) ≡ o →
-          Puts (shapeOf m r) (wordsOf bytes) (entries (wordsOf bytes)) (split (shapeOf m r) key) o → Adds m r bytes key
+          putIn sh (wordsOf bytes) (split sh key) ≡ o →
+          Puts sh (wordsOf bytes) (entries (wordsOf bytes)) (split sh key) o → Adds sh bytes key
       go o e (found k) = absurd (true≢false (sym k ∙ sym here ∙ h))
       go o e (inserted p k room added) = added-adds p room added e
       go o e (overflow k room) =
           absurd
           (some
           (room-full
-          (split (shapeOf m r) key .homePlace)
-          (table-guarded (shapeOf m r) (size-of (t .whole)) (table-of (t .whole)))
+          (split sh key .homePlace)
+          (table-guarded sh (size-of (t .whole)) (table-of (t .whole)))
           room))

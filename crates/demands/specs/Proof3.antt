@@ -12,7 +12,7 @@ use Rattle.rules.specs.declared.Shape.{Shape}
 use Rattle.rules.specs.Lists.{all, any}
 use Rattle.rules.specs.Word.{Word, zeroWord, isVoid, numberOf}
 use Rattle.rules.specs.Bytes.{wordsOf, bytesOf}
-use Rattle.rules.specs.Shape.{shapeOf, homes, remainders, keys, places, rightGuard, goodTable}
+use Rattle.rules.specs.Shape.{homes, remainders, keys, places, rightGuard, goodTable}
 use Rattle.rules.specs.Entry.{Entry, split, join}
 use Rattle.rules.specs.Table.{entries, list, locked}
 use Rattle.rules.specs.Lay.{holds, ascend, lay}
@@ -164,150 +164,147 @@ nothing-inside us x h = absurd (true≢false (sym h))
 
 -- a build's checks, passed
 build-by :
-    (m r : ℕ) (bytes ks : List ℕ) →
-    goodTable (shapeOf m r) (length bytes) ≡ true →
-    InKeys (shapeOf m r) ks → build m r bytes ks ≡ buildIn (shapeOf m r) bytes (entriesOf (shapeOf m r) ks)
+    (sh : Shape) (bytes ks : List ℕ) →
+    goodTable sh (length bytes) ≡ true →
+    InKeys sh ks → build sh bytes ks ≡ buildIn sh bytes (entriesOf sh ks)
 unfolding build
-build-by m r bytes ks good h = rw (good, h)
+build-by sh bytes ks good h = rw (good, h)
 
 build-few :
-    (m r : ℕ) (bytes ks : List ℕ) →
-    goodTable (shapeOf m r) (length bytes) ≡ true →
-    InKeys (shapeOf m r) ks →
-    distinct (shapeOf m r) ks ≤ homes (shapeOf m r) →
-    build m r bytes ks
-    ≡ leaves (says 0) (bytesOf (puts (shapeOf m r) (zeros (shapeOf m r)) (entriesOf (shapeOf m r) ks)))
+    (sh : Shape) (bytes ks : List ℕ) →
+    goodTable sh (length bytes) ≡ true →
+    InKeys sh ks →
+    distinct sh ks ≤ homes sh →
+    build sh bytes ks
+    ≡ leaves (says 0) (bytesOf (puts sh (zeros sh) (entriesOf sh ks)))
 unfolding buildIn tooMany distinct
-build-few m r bytes ks good h few =
-    build-by m r bytes ks good h
-    ∙ rw (le-ltb (homes (shapeOf m r)) (length (ascend (entriesOf (shapeOf m r) ks))) few)
+build-few sh bytes ks good h few =
+    build-by sh bytes ks good h
+    ∙ rw (le-ltb (homes sh) (length (ascend (entriesOf sh ks))) few)
 
 pub build-many :
-    (m r : ℕ) (bytes ks : List ℕ) →
-    goodTable (shapeOf m r) (length bytes) ≡ true →
-    InKeys (shapeOf m r) ks →
-    homes (shapeOf m r) < distinct (shapeOf m r) ks →
-    build m r bytes ks ≡ leaves (refuses 8) (replicate (length bytes) 0)
+    (sh : Shape) (bytes ks : List ℕ) →
+    goodTable sh (length bytes) ≡ true →
+    InKeys sh ks →
+    homes sh < distinct sh ks →
+    build sh bytes ks ≡ leaves (refuses 8) (replicate (length bytes) 0)
 unfolding buildIn tooMany distinct
-build-many m r bytes ks good h many =
-    build-by m r bytes ks good h
-    ∙ rw (lt-ltb (homes (shapeOf m r)) (length (ascend (entriesOf (shapeOf m r) ks))) many)
+build-many sh bytes ks good h many =
+    build-by sh bytes ks good h
+    ∙ rw (lt-ltb (homes sh) (length (ascend (entriesOf sh ks))) many)
 
-module _ (m r : ℕ) (range : InRange (shapeOf m r)) (ks : List ℕ) (h : InKeys (shapeOf m r) ks)
-    (few : distinct (shapeOf m r) ks ≤ homes (shapeOf m r))
+module _ (sh : Shape) (range : InRange sh) (ks : List ℕ) (h : InKeys sh ks)
+    (few : distinct sh ks ≤ homes sh)
   where
-    low : remainders (shapeOf m r) ≤ 4096
-    low = remainders-high (shapeOf m r) range
+    low : remainders sh ≤ 4096
+    low = remainders-high sh range
 
-    room : Roomy (shapeOf m r) (ascend (entriesOf (shapeOf m r) ks))
-    room = keys-roomy (shapeOf m r) ks low h few
+    room : Roomy sh (ascend (entriesOf sh ks))
+    room = keys-roomy sh ks low h few
 
     built : List Word
-    built = puts (shapeOf m r) (zeros (shapeOf m r)) (entriesOf (shapeOf m r) ks)
+    built = puts sh (zeros sh) (entriesOf sh ks)
 
-    left : Left room (entriesOf (shapeOf m r) ks) [] built
+    left : Left room (entriesOf sh ks) [] built
     unfolding built
     left =
         puts-state
         room
-        (entriesOf (shapeOf m r) ks)
-        (zeros (shapeOf m r))
+        (entriesOf sh ks)
+        (zeros sh)
         []
-        (zeros-state (shapeOf m r))
+        (zeros-state sh)
         (nothing-inside _)
-        (inside-ascend (entriesOf (shapeOf m r) ks))
+        (inside-ascend (entriesOf sh ks))
 
     -- it shows the distinct entries, ascending
-    shown-is : left .shown ≡ ascend (entriesOf (shapeOf m r) ks)
+    shown-is : left .shown ≡ ascend (entriesOf sh ks)
     unfolding holds any
     shown-is =
         asc-unique
         low
-        (table-inside (shapeOf m r) low (left .state .size) (left .state .table))
+        (table-inside sh low (left .state .size) (left .state .table))
         (room .asc)
-        (λ x. left .held x ∙ sym (holds-ascend x (entriesOf (shapeOf m r) ks)))
+        (λ x. left .held x ∙ sym (holds-ascend x (entriesOf sh ks)))
 
     -- in ascending order, each key once: the same table
-    built-ascend : built ≡ puts (shapeOf m r) (zeros (shapeOf m r)) (ascend (entriesOf (shapeOf m r) ks))
+    built-ascend : built ≡ puts sh (zeros sh) (ascend (entriesOf sh ks))
     unfolding built
     built-ascend =
         puts-ascend
         room
-        (entriesOf (shapeOf m r) ks)
-        (zeros (shapeOf m r))
+        (entriesOf sh ks)
+        (zeros sh)
         []
-        (zeros-state (shapeOf m r))
+        (zeros-state sh)
         (nothing-inside _)
-        (inside-ascend (entriesOf (shapeOf m r) ks))
+        (inside-ascend (entriesOf sh ks))
 
-    pub builds : (bytes : List ℕ) → goodTable (shapeOf m r) (length bytes) ≡ true → Builds m r bytes ks
+    pub builds : (bytes : List ℕ) → goodTable sh (length bytes) ≡ true → Builds sh bytes ks
     unfolding list built
     builds bytes good =
         record {
           after = bytesOf built;
-          answer = build-few m r bytes ks good h few;
-          table = plain-of m r range (left .state);
-          list-after = ap (map (join (shapeOf m r))) (entries-back m r range (left .state) ∙ shown-is);
+          answer = build-few sh bytes ks good h few;
+          table = plain-of sh range (left .state);
+          list-after = ap (map (join sh)) (entries-back sh range (left .state) ∙ shown-is);
           listed-after = λ x small.
-              listed-here (plain-of m r range (left .state) .whole) x small
-              ∙ ap (holds (split (shapeOf m r) x)) (entries-back m r range (left .state) ∙ shown-is)
-              ∙ holds-ascend (split (shapeOf m r) x) (entriesOf (shapeOf m r) ks)
-              ∙ sym (listed-split (shapeOf m r) x ks);
+              listed-here (plain-of sh range (left .state) .whole) x small
+              ∙ ap (holds (split sh x)) (entries-back sh range (left .state) ∙ shown-is)
+              ∙ holds-ascend (split sh x) (entriesOf sh ks)
+              ∙ sym (listed-split sh x ks);
         }
 
 -- any order and any repeats of the same keys give the same
 pub build-order :
-    (m r : ℕ) (bytes ks js : List ℕ) →
-    goodTable (shapeOf m r) (length bytes) ≡ true →
-    InKeys (shapeOf m r) ks →
-    InKeys (shapeOf m r) js →
-    ((x : ℕ) → x < keys (shapeOf m r) → listed x ks ≡ listed x js) → build m r bytes ks ≡ build m r bytes js
+    (sh : Shape) (bytes ks js : List ℕ) →
+    goodTable sh (length bytes) ≡ true →
+    InKeys sh ks →
+    InKeys sh js →
+    ((x : ℕ) → x < keys sh → listed x ks ≡ listed x js) → build sh bytes ks ≡ build sh bytes js
 unfolding distinct built
-build-order m r bytes ks js good h k alike = go (ltb (homes (shapeOf m r)) (distinct (shapeOf m r) ks)) refl
+build-order sh bytes ks js good h k alike = go (ltb (homes sh) (distinct sh ks)) refl
   where
-    range : InRange (shapeOf m r)
-    range = good-table (shapeOf m r) (length bytes) good .0
+    range : InRange sh
+    range = good-table sh (length bytes) good .0
 
-    same : ascend (entriesOf (shapeOf m r) ks) ≡ ascend (entriesOf (shapeOf m r) js)
-    same = ascend-keys (shapeOf m r) ks js (remainders-high (shapeOf m r) range) h k alike
+    same : ascend (entriesOf sh ks) ≡ ascend (entriesOf sh js)
+    same = ascend-keys sh ks js (remainders-high sh range) h k alike
 
     go :
-        (b : Bool) → ltb (homes (shapeOf m r)) (distinct (shapeOf m r) ks) ≡ b →
-        build m r bytes ks ≡ build m r bytes js
+        (b : Bool) → ltb (homes sh) (distinct sh ks) ≡ b →
+        build sh bytes ks ≡ build sh bytes js
     go true t =
-        let many = ltb-true (homes (shapeOf m r)) (distinct (shapeOf m r) ks) t in
-        build-many m r bytes ks good h many
-        ∙ sym (build-many m r bytes js good k (subst (λ (n : ℕ). homes (shapeOf m r) < n) (ap length same) many))
+        let many = ltb-true (homes sh) (distinct sh ks) t in
+        build-many sh bytes ks good h many
+        ∙ sym (build-many sh bytes js good k (subst (λ (n : ℕ). homes sh < n) (ap length same) many))
     go false t =
-        let few = ltb-false (homes (shapeOf m r)) (distinct (shapeOf m r) ks) t in
-        let also : distinct (shapeOf m r) js ≤ homes (shapeOf m r) =
-        subst (λ (n : ℕ). n ≤ homes (shapeOf m r)) (ap length same) few in
-        build-few m r bytes ks good h few
+        let few = ltb-false (homes sh) (distinct sh ks) t in
+        let also : distinct sh js ≤ homes sh =
+        subst (λ (n : ℕ). n ≤ homes sh) (ap length same) few in
+        build-few sh bytes ks good h few
         ∙ ap
         (λ (ws : List Word). leaves (says 0) (bytesOf ws))
-        (built-ascend m r range ks h few
-        ∙ ap (puts (shapeOf m r) (zeros (shapeOf m r))) same
-        ∙ sym (built-ascend m r range js k also))
-        ∙ sym (build-few m r bytes js good k also)
+        (built-ascend sh range ks h few
+        ∙ ap (puts sh (zeros sh)) same
+        ∙ sym (built-ascend sh range js k also))
+        ∙ sym (build-few sh bytes js good k also)
 
 -- what a build ignores: two tables of one length give the same
 pub build-ignores :
-    (m r : ℕ) (bytes others ks : List ℕ) → length bytes ≡ length others →
-    goodTable (shapeOf m r) (length bytes) ≡ true → InKeys (shapeOf m r) ks →
-    build m r bytes ks ≡ build m r others ks
+    (sh : Shape) (bytes others ks : List ℕ) → length bytes ≡ length others →
+    goodTable sh (length bytes) ≡ true → InKeys sh ks →
+    build sh bytes ks ≡ build sh others ks
 unfolding buildIn
-build-ignores m r bytes others ks long good h =
-    build-by m r bytes ks good h
+build-ignores sh bytes others ks long good h =
+    build-by sh bytes ks good h
     ∙ ap
     (λ (n : ℕ).
     cond (tooMany sh (entriesOf sh ks))
     (leaves (refuses 8) (replicate n 0))
     (leaves (says 0) (bytesOf (puts sh (zeros sh) (entriesOf sh ks)))))
     long
-    ∙ sym (build-by m r others ks (sym (ap (goodTable sh) long) ∙ good) h)
-  where
-    sh : Shape
-    sh = shapeOf m r
+    ∙ sym (build-by sh others ks (sym (ap (goodTable sh) long) ∙ good) h)
 
 -- a list's keys are in range
 pub ascending-keys : (sh : Shape) {b : ℕ} {ks : List ℕ} → Ascending (keys sh) b ks → InKeys sh ks
@@ -317,40 +314,40 @@ ascending-keys sh (ascending-next {k = k} a lt up) = and-both _ _ (lt-ltb k (key
 
 -- building, listing and building again
 pub build-again :
-    (m r : ℕ) (bytes others ks : List ℕ) →
+    (sh : Shape) (bytes others ks : List ℕ) →
     length bytes ≡ length others →
-    goodTable (shapeOf m r) (length bytes) ≡ true →
-    InKeys (shapeOf m r) ks →
-    (b : Builds m r bytes ks) → build m r others (listOf m r (b .after)) ≡ leaves (says 0) (b .after)
-build-again m r bytes others ks long good h b =
-    sym (build-ignores m r bytes others (listOf m r (b .after)) long good in-list)
-    ∙ build-order m r bytes (listOf m r (b .after)) ks good in-list h (λ x small. b .listed-after x small)
+    goodTable sh (length bytes) ≡ true →
+    InKeys sh ks →
+    (b : Builds sh bytes ks) → build sh others (listOf sh (b .after)) ≡ leaves (says 0) (b .after)
+build-again sh bytes others ks long good h b =
+    sym (build-ignores sh bytes others (listOf sh (b .after)) long good in-list)
+    ∙ build-order sh bytes (listOf sh (b .after)) ks good in-list h (λ x small. b .listed-after x small)
     ∙ b .answer
   where
-    in-list : InKeys (shapeOf m r) (listOf m r (b .after))
-    in-list = ascending-keys (shapeOf m r) (ascending-list (b .table .whole))
+    in-list : InKeys sh (listOf sh (b .after))
+    in-list = ascending-keys sh (ascending-list (b .table .whole))
 
 -- ---- puts of bytes, one by one
 -- a put leaves a plain table with the words that the definition names
-record Leaves-plain (m r : ℕ) (bytes : List ℕ) (key : ℕ) : Type 0 where
-  table : PlainTable m r (left-by (put m r bytes key))
-  words : wordsOf (left-by (put m r bytes key)) ≡ after-put (shapeOf m r) (wordsOf bytes) (split (shapeOf m r) key)
+record Leaves-plain (sh : Shape) (bytes : List ℕ) (key : ℕ) : Type 0 where
+  table : PlainTable sh (left-by (put sh bytes key))
+  words : wordsOf (left-by (put sh bytes key)) ≡ after-put sh (wordsOf bytes) (split sh key)
 
 put-plain :
-    {m r : ℕ} {bytes : List ℕ} →
-    PlainTable m r bytes → (key : ℕ) → key < keys (shapeOf m r) → Leaves-plain m r bytes key
-put-plain {m} {r} {bytes} t key lt =
-    go (putIn (shapeOf m r) (wordsOf bytes) (split (shapeOf m r) key)) refl (cases t key lt)
+    {sh : Shape} {bytes : List ℕ} →
+    PlainTable sh bytes → (key : ℕ) → key < keys sh → Leaves-plain sh bytes key
+put-plain {sh} {bytes} t key lt =
+    go (putIn sh (wordsOf bytes) (split sh key)) refl (cases t key lt)
   where
-    range : InRange (shapeOf m r)
+    range : InRange sh
     range = in-range-of (t .whole)
 
     kept :
-        (a : Answer) → putIn (shapeOf m r) (wordsOf bytes) (split (shapeOf m r) key) ≡ keeps a →
-        Leaves-plain m r bytes key
+        (a : Answer) → putIn sh (wordsOf bytes) (split sh key) ≡ keeps a →
+        Leaves-plain sh bytes key
     kept a e =
         record {
-          table = subst (PlainTable m r) (sym (ap left-by (put-by t key lt e))) t;
+          table = subst (PlainTable sh) (sym (ap left-by (put-by t key lt e))) t;
           words =
               ap (λ (x : Leaves (List ℕ)). wordsOf (left-by x)) (put-by t key lt e)
               ∙ sym (ap (wordsAfter (wordsOf bytes)) e);
@@ -358,34 +355,34 @@ put-plain {m} {r} {bytes} t key lt =
 
     go :
         (o : Outcome) →
-        putIn (shapeOf m r) (wordsOf bytes) (split (shapeOf m r) key) ≡ o →
-        Puts (shapeOf m r) (wordsOf bytes) (entries (wordsOf bytes)) (split (shapeOf m r) key) o →
-        Leaves-plain m r bytes key
+        putIn sh (wordsOf bytes) (split sh key) ≡ o →
+        Puts sh (wordsOf bytes) (entries (wordsOf bytes)) (split sh key) o →
+        Leaves-plain sh bytes key
     go o e (found k) = kept (says 1) e
     go o e (overflow k room) = kept (refuses 8) e
     go o e (inserted p k room added) =
         let state = added-state (state-of t) added in
         record {
-          table = subst (PlainTable m r) (sym (ap left-by (put-by t key lt e))) (plain-of m r range state);
+          table = subst (PlainTable sh) (sym (ap left-by (put-by t key lt e))) (plain-of sh range state);
           words =
               ap (λ (x : Leaves (List ℕ)). wordsOf (left-by x)) (put-by t key lt e)
-              ∙ words-back m r range state
+              ∙ words-back sh range state
               ∙ sym (ap (wordsAfter (wordsOf bytes)) e);
         }
 
 pub put-all-plain :
-    {m r : ℕ} {bytes : List ℕ} (ks : List ℕ) →
-    PlainTable m r bytes →
-    InKeys (shapeOf m r) ks →
-    PlainTable m r (putAll m r bytes ks)
-    × (wordsOf (putAll m r bytes ks) ≡ puts (shapeOf m r) (wordsOf bytes) (entriesOf (shapeOf m r) ks))
+    {sh : Shape} {bytes : List ℕ} (ks : List ℕ) →
+    PlainTable sh bytes →
+    InKeys sh ks →
+    PlainTable sh (putAll sh bytes ks)
+    × (wordsOf (putAll sh bytes ks) ≡ puts sh (wordsOf bytes) (entriesOf sh ks))
 unfolding putAll puts all
 put-all-plain [] t h = (t, refl)
-put-all-plain {m} {r} {bytes} (key ∷ ks) t h =
-    let lt = ltb-true key (keys (shapeOf m r)) (and-left (ltb key (keys (shapeOf m r))) _ h) in
+put-all-plain {sh} {bytes} (key ∷ ks) t h =
+    let lt = ltb-true key (keys sh) (and-left (ltb key (keys sh)) _ h) in
     let one = put-plain t key lt in
-    let rest = put-all-plain ks (one .table) (and-right (ltb key (keys (shapeOf m r))) _ h) in
-    (rest .0, rest .1 ∙ ap (λ (ws : List Word). puts (shapeOf m r) ws (entriesOf (shapeOf m r) ks)) (one .words))
+    let rest = put-all-plain ks (one .table) (and-right (ltb key (keys sh)) _ h) in
+    (rest .0, rest .1 ∙ ap (λ (ws : List Word). puts sh ws (entriesOf sh ks)) (one .words))
 
 -- ---- puts in any order
 pub map-both : (sh : Shape) (ks js : List ℕ) → entriesOf sh (ks ++ js) ≡ entriesOf sh ks ++ entriesOf sh js
@@ -399,17 +396,17 @@ all-both sh (x ∷ ks) js h k =
     and-both _ _ (and-left (ltb x (keys sh)) _ h) (all-both sh ks js (and-right (ltb x (keys sh)) _ h) k)
 
 pub puts-order :
-    {m r : ℕ} {bytes : List ℕ} (ks js : List ℕ) →
-    PlainTable m r bytes →
-    InKeys (shapeOf m r) ks →
-    InKeys (shapeOf m r) js →
-    ((x : ℕ) → x < keys (shapeOf m r) → listed x ks ≡ listed x js) →
-    distinct (shapeOf m r) (listOf m r bytes ++ ks) ≤ homes (shapeOf m r) → putAll m r bytes ks ≡ putAll m r bytes js
+    {sh : Shape} {bytes : List ℕ} (ks js : List ℕ) →
+    PlainTable sh bytes →
+    InKeys sh ks →
+    InKeys sh js →
+    ((x : ℕ) → x < keys sh → listed x ks ≡ listed x js) →
+    distinct sh (listOf sh bytes ++ ks) ≤ homes sh → putAll sh bytes ks ≡ putAll sh bytes js
 unfolding list
-puts-order {m} {r} {bytes} ks js t h k alike few =
+puts-order {sh} {bytes} ks js t h k alike few =
     same-bytes
-    (putAll m r bytes ks)
-    (putAll m r bytes js)
+    (putAll sh bytes ks)
+    (putAll sh bytes js)
     (places sh)
     (long (first .0))
     (long (second .0))
@@ -421,26 +418,23 @@ puts-order {m} {r} {bytes} ks js t h k alike few =
     ∙ sym (puts-ascend room (entriesOf sh js) (wordsOf bytes) es (state-of t) old-in js-in)
     ∙ sym (second .1))
   where
-    sh : Shape
-    sh = shapeOf m r
-
     es : List Entry
     es = entries (wordsOf bytes)
 
-    in-list : InKeys sh (listOf m r bytes)
+    in-list : InKeys sh (listOf sh bytes)
     in-list = ascending-keys sh (ascending-list (t .whole))
 
     us : List Entry
-    us = ascend (entriesOf sh (listOf m r bytes ++ ks))
+    us = ascend (entriesOf sh (listOf sh bytes ++ ks))
 
     room : Roomy sh us
-    room = keys-roomy sh (listOf m r bytes ++ ks) (low-of (t .whole)) (all-both sh (listOf m r bytes) ks in-list h) few
+    room = keys-roomy sh (listOf sh bytes ++ ks) (low-of (t .whole)) (all-both sh (listOf sh bytes) ks in-list h) few
 
     among : (x : Entry) → holds x us ≡ (holds x es || holds x (entriesOf sh ks))
     among x =
-        holds-ascend x (entriesOf sh (listOf m r bytes ++ ks))
-        ∙ ap (holds x) (map-both sh (listOf m r bytes) ks)
-        ∙ holds-append x (entriesOf sh (listOf m r bytes)) (entriesOf sh ks)
+        holds-ascend x (entriesOf sh (listOf sh bytes ++ ks))
+        ∙ ap (holds x) (map-both sh (listOf sh bytes) ks)
+        ∙ holds-append x (entriesOf sh (listOf sh bytes)) (entriesOf sh ks)
         ∙ ap (λ (fs : List Entry). holds x fs || holds x (entriesOf sh ks)) (split-keys sh (in-shape (t .whole)))
 
     old-in : Inside es us
@@ -453,16 +447,16 @@ puts-order {m} {r} {bytes} ks js t h k alike few =
     js-in x y = ks-in x (same-entries sh ks js (low-of (t .whole)) h k alike x ∙ y)
 
     first :
-        PlainTable m r (putAll m r bytes ks)
-        × (wordsOf (putAll m r bytes ks) ≡ puts sh (wordsOf bytes) (entriesOf sh ks))
+        PlainTable sh (putAll sh bytes ks)
+        × (wordsOf (putAll sh bytes ks) ≡ puts sh (wordsOf bytes) (entriesOf sh ks))
     first = put-all-plain ks t h
 
     second :
-        PlainTable m r (putAll m r bytes js)
-        × (wordsOf (putAll m r bytes js) ≡ puts sh (wordsOf bytes) (entriesOf sh js))
+        PlainTable sh (putAll sh bytes js)
+        × (wordsOf (putAll sh bytes js) ≡ puts sh (wordsOf bytes) (entriesOf sh js))
     second = put-all-plain js t k
 
-    long : {bs : List ℕ} → PlainTable m r bs → length bs ≡ 2 * places sh
+    long : {bs : List ℕ} → PlainTable sh bs → length bs ≡ 2 * places sh
     long {bs} v = good-table sh (length bs) (v .whole .good) .1
 
 -- ---- build is puts from zero bytes
@@ -475,24 +469,21 @@ zero-bytes (suc n) = ap (λ (bs : List ℕ). 0 ∷ 0 ∷ bs) (zero-bytes n) ∙ 
     far = omega arith
 
 pub build-puts :
-    (m r : ℕ) (bytes ks : List ℕ) →
-    goodTable (shapeOf m r) (length bytes) ≡ true →
-    InKeys (shapeOf m r) ks →
-    distinct (shapeOf m r) ks ≤ homes (shapeOf m r) →
-    build m r bytes ks ≡ leaves (says 0) (putAll m r (replicate (length bytes) 0) ks)
+    (sh : Shape) (bytes ks : List ℕ) →
+    goodTable sh (length bytes) ≡ true →
+    InKeys sh ks →
+    distinct sh ks ≤ homes sh →
+    build sh bytes ks ≡ leaves (says 0) (putAll sh (replicate (length bytes) 0) ks)
 unfolding zeros places
-build-puts m r bytes ks good h few =
-    build-few m r bytes ks good h few
+build-puts sh bytes ks good h few =
+    build-few sh bytes ks good h few
     ∙ ap
     (leaves (says 0))
     (sym same
     ∙ ap
-    (λ (bs : List ℕ). putAll m r bs ks)
+    (λ (bs : List ℕ). putAll sh bs ks)
     (zero-bytes (places sh) ∙ ap (λ (n : ℕ). replicate n 0) (sym long)))
   where
-    sh : Shape
-    sh = shapeOf m r
-
     range : InRange sh
     range = good-table sh (length bytes) good .0
 
@@ -500,16 +491,16 @@ build-puts m r bytes ks good h few =
     long = good-table sh (length bytes) good .1
 
     done :
-        PlainTable m r (putAll m r (bytesOf (zeros sh)) ks)
-        × (wordsOf (putAll m r (bytesOf (zeros sh)) ks) ≡ puts sh (wordsOf (bytesOf (zeros sh))) (entriesOf sh ks))
-    done = put-all-plain ks (plain-of m r range (zeros-state sh)) h
+        PlainTable sh (putAll sh (bytesOf (zeros sh)) ks)
+        × (wordsOf (putAll sh (bytesOf (zeros sh)) ks) ≡ puts sh (wordsOf (bytesOf (zeros sh))) (entriesOf sh ks))
+    done = put-all-plain ks (plain-of sh range (zeros-state sh)) h
 
-    same : putAll m r (bytesOf (zeros sh)) ks ≡ bytesOf (puts sh (zeros sh) (entriesOf sh ks))
+    same : putAll sh (bytesOf (zeros sh)) ks ≡ bytesOf (puts sh (zeros sh) (entriesOf sh ks))
     same =
         bytes-are
-        (putAll m r (bytesOf (zeros sh)) ks)
+        (putAll sh (bytesOf (zeros sh)) ks)
         (places sh)
         (puts sh (zeros sh) (entriesOf sh ks))
-        (good-table sh (length (putAll m r (bytesOf (zeros sh)) ks)) (done .0 .whole .good) .1)
+        (good-table sh (length (putAll sh (bytesOf (zeros sh)) ks)) (done .0 .whole .good) .1)
         (done .0 .whole .small)
-        (done .1 ∙ ap (λ (ws : List Word). puts sh ws (entriesOf sh ks)) (words-back m r range (zeros-state sh)))
+        (done .1 ∙ ap (λ (ws : List Word). puts sh ws (entriesOf sh ks)) (words-back sh range (zeros-state sh)))

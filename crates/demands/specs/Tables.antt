@@ -7,9 +7,10 @@ use mathlib.Core.List.{List, [], _∷_}
 use native.Mathlib.Omega.{arith}
 use lib.ListN.{length, getD}
 use borrow.Author.Tests.{eq-eqb}
+use Rattle.rules.specs.declared.Shape.{Shape}
 use Rattle.rules.specs.Word.{Word}
 use Rattle.rules.specs.Bytes.{wordsOf, bytesOf}
-use Rattle.rules.specs.Shape.{shapeOf, remainders, places, fitsLength, goodTable}
+use Rattle.rules.specs.Shape.{remainders, places, fitsLength, goodTable}
 use Rattle.rules.specs.Entry.{Entry}
 use Rattle.rules.specs.Table.{at, occupiedPlaces, entries, sound, locked}
 use Rattle.rules.specs.Lay.{lay}
@@ -27,26 +28,26 @@ use Rattle.theory.specs.Pairs.{table-lay}
 use Rattle.theory.specs.Building.{State, table-asc}
 use Rattle.demands.specs.Terms.{SoundTable, PlainTable}
 
-pub in-range-of : {m r : ℕ} {bytes : List ℕ} → SoundTable m r bytes → InRange (shapeOf m r)
-in-range-of {m} {r} {bytes} t = good-table (shapeOf m r) (length bytes) (t .good) .0
+pub in-range-of : {sh : Shape} {bytes : List ℕ} → SoundTable sh bytes → InRange sh
+in-range-of {sh} {bytes} t = good-table sh (length bytes) (t .good) .0
 
-pub low-of : {m r : ℕ} {bytes : List ℕ} → SoundTable m r bytes → remainders (shapeOf m r) ≤ 4096
-low-of {m} {r} t = remainders-high (shapeOf m r) (in-range-of t)
+pub low-of : {sh : Shape} {bytes : List ℕ} → SoundTable sh bytes → remainders sh ≤ 4096
+low-of {sh} t = remainders-high sh (in-range-of t)
 
-pub size-of : {m r : ℕ} {bytes : List ℕ} → SoundTable m r bytes → length (wordsOf bytes) ≡ places (shapeOf m r)
-size-of {m} {r} {bytes} t =
-    words-length bytes (places (shapeOf m r)) (good-table (shapeOf m r) (length bytes) (t .good) .1)
+pub size-of : {sh : Shape} {bytes : List ℕ} → SoundTable sh bytes → length (wordsOf bytes) ≡ places sh
+size-of {sh} {bytes} t =
+    words-length bytes (places sh) (good-table sh (length bytes) (t .good) .1)
 
 -- ---- from bytes to the theory's tables
 pub table-of :
-    {m r : ℕ} {bytes : List ℕ} →
-    SoundTable m r bytes → Table (remainders (shapeOf m r)) (wordsOf bytes) (entries (wordsOf bytes))
-table-of {m} {r} {bytes} t =
-    sound-is-table (shapeOf m r) (wordsOf bytes) (low-of t) (size-of t) (t .sound-words)
+    {sh : Shape} {bytes : List ℕ} →
+    SoundTable sh bytes → Table (remainders sh) (wordsOf bytes) (entries (wordsOf bytes))
+table-of {sh} {bytes} t =
+    sound-is-table sh (wordsOf bytes) (low-of t) (size-of t) (t .sound-words)
 
 pub state-of :
-    {m r : ℕ} {bytes : List ℕ} →
-    PlainTable m r bytes → State (shapeOf m r) (wordsOf bytes) (entries (wordsOf bytes))
+    {sh : Shape} {bytes : List ℕ} →
+    PlainTable sh bytes → State sh (wordsOf bytes) (entries (wordsOf bytes))
 state-of t = record { table = table-of (t .whole); free = t .unlocked; size = size-of (t .whole) }
 
 -- ---- and back
@@ -78,14 +79,14 @@ bytes-small (w ∷ ws) small zero = omega arith
 bytes-small (w ∷ ws) small (suc zero) = omega (arith, number-small w (small 0))
 bytes-small (w ∷ ws) small (suc (suc i)) = bytes-small ws (λ p. small (suc p)) i
 
-module _ (m r : ℕ) (range : InRange (shapeOf m r)) {ws : List Word} {es : List Entry}
-    (t : State (shapeOf m r) ws es)
+module _ (sh : Shape) (range : InRange sh) {ws : List Word} {es : List Entry}
+    (t : State sh ws es)
   where
     pub words-back : wordsOf (bytesOf ws) ≡ ws
-    words-back = words-of-bytes ws (table-small (remainders-high (shapeOf m r) range) (t .table))
+    words-back = words-of-bytes ws (table-small (remainders-high sh range) (t .table))
 
     -- the bytes of an unlocked table are a plain table that shows the table's entries
-    pub plain-of : PlainTable m r (bytesOf ws)
+    pub plain-of : PlainTable sh (bytesOf ws)
     unfolding goodTable fitsLength
     plain-of =
         record {
@@ -95,15 +96,15 @@ module _ (m r : ℕ) (range : InRange (shapeOf m r)) {ws : List Word} {es : List
                     and-both
                     _
                     _
-                    (range-in (shapeOf m r) range)
+                    (range-in sh range)
                     (eq-eqb _ _ (bytes-length ws ∙ ap (λ (n : ℕ). 2 * n) (t .size)));
-                small = bytes-small ws (table-small (remainders-high (shapeOf m r) range) (t .table));
+                small = bytes-small ws (table-small (remainders-high sh range) (t .table));
                 sound-words =
-                    ap (sound (shapeOf m r)) words-back
-                    ∙ table-is-sound (shapeOf m r) (remainders-high (shapeOf m r) range) (t .size) (t .table);
+                    ap (sound sh) words-back
+                    ∙ table-is-sound sh (remainders-high sh range) (t .size) (t .table);
               };
           unlocked = ap locked words-back ∙ t .free;
         }
 
     pub entries-back : entries (wordsOf (bytesOf ws)) ≡ es
-    entries-back = ap entries words-back ∙ table-entries (shapeOf m r) (remainders-high (shapeOf m r) range) (t .table)
+    entries-back = ap entries words-back ∙ table-entries sh (remainders-high sh range) (t .table)

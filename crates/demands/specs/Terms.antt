@@ -11,7 +11,7 @@ use lib.Dec.{eqb, ltb}
 use Rattle.rules.specs.declared.Shape.{Shape}
 use Rattle.rules.specs.Lists.{all}
 use Rattle.rules.specs.Bytes.{wordsOf}
-use Rattle.rules.specs.Shape.{shapeOf, keys, goodTable}
+use Rattle.rules.specs.Shape.{keys, goodTable}
 use Rattle.rules.specs.Entry.{Entry, split, join}
 use Rattle.rules.specs.Table.{occupiedPlaces, list, sound, locked}
 use Rattle.rules.specs.Room.{place, roomFor}
@@ -22,19 +22,19 @@ use Rattle.rules.specs.Build.{build}
 use Rattle.theory.specs.Keys.{listed}
 
 -- lent bytes that are a sound table of a shape
-pub record SoundTable (m r : ℕ) (bytes : List ℕ) : Type 0 where
-  pub good : goodTable (shapeOf m r) (length bytes) ≡ true
+pub record SoundTable (sh : Shape) (bytes : List ℕ) : Type 0 where
+  pub good : goodTable sh (length bytes) ≡ true
   pub small : (i : ℕ) → getD bytes i 0 < 256
-  pub sound-words : sound (shapeOf m r) (wordsOf bytes) ≡ true
+  pub sound-words : sound sh (wordsOf bytes) ≡ true
 
 -- sound, and without a lock
-pub record PlainTable (m r : ℕ) (bytes : List ℕ) : Type 0 where
-  pub whole : SoundTable m r bytes
+pub record PlainTable (sh : Shape) (bytes : List ℕ) : Type 0 where
+  pub whole : SoundTable sh bytes
   pub unlocked : locked (wordsOf bytes) ≡ false
 
 -- the list that it shows
-abbrev pub listOf : ℕ → ℕ → List ℕ → List ℕ
-listOf m r bytes = list (shapeOf m r) (wordsOf bytes)
+abbrev pub listOf : Shape → List ℕ → List ℕ
+listOf sh bytes = list sh (wordsOf bytes)
 
 -- keys in range
 abbrev pub InKeys : Shape → List ℕ → Type 0
@@ -52,25 +52,25 @@ abbrev pub left-by : {A : Type 0} → Leaves A → A
 left-by (leaves a x) = x
 
 -- puts one by one
-unfoldable pub putAll : ℕ → ℕ → List ℕ → List ℕ → List ℕ
-putAll m r bytes [] = bytes
-putAll m r bytes (key ∷ ks) = putAll m r (left-by (put m r bytes key)) ks
+unfoldable pub putAll : Shape → List ℕ → List ℕ → List ℕ
+putAll sh bytes [] = bytes
+putAll sh bytes (key ∷ ks) = putAll sh (left-by (put sh bytes key)) ks
 
 -- a put that adds: where, what it answers, and what it leaves
-pub record Adds (m r : ℕ) (bytes : List ℕ) (key : ℕ) : Type 0 where
+pub record Adds (sh : Shape) (bytes : List ℕ) (key : ℕ) : Type 0 where
   pub after : List ℕ
   pub filled : ℕ
-  pub named : roomFor (shapeOf m r) (occupiedPlaces (wordsOf bytes)) (split (shapeOf m r) key .homePlace) ≡ place filled
-  pub answer : put m r bytes key ≡ leaves (says 2) after
-  pub table : PlainTable m r after
+  pub named : roomFor sh (occupiedPlaces (wordsOf bytes)) (split sh key .homePlace) ≡ place filled
+  pub answer : put sh bytes key ≡ leaves (says 2) after
+  pub table : PlainTable sh after
   pub places-after : occupiedPlaces (wordsOf after) ≡ set (occupiedPlaces (wordsOf bytes)) filled true
   pub listed-after :
-      (x : ℕ) → x < keys (shapeOf m r) → listed x (listOf m r after) ≡ (eqb x key || listed x (listOf m r bytes))
+      (x : ℕ) → x < keys sh → listed x (listOf sh after) ≡ (eqb x key || listed x (listOf sh bytes))
 
 -- a build that is accepted
-pub record Builds (m r : ℕ) (bytes ks : List ℕ) : Type 0 where
+pub record Builds (sh : Shape) (bytes ks : List ℕ) : Type 0 where
   pub after : List ℕ
-  pub answer : build m r bytes ks ≡ leaves (says 0) after
-  pub table : PlainTable m r after
-  pub list-after : listOf m r after ≡ map (join (shapeOf m r)) (ascend (entriesOf (shapeOf m r) ks))
-  pub listed-after : (x : ℕ) → x < keys (shapeOf m r) → listed x (listOf m r after) ≡ listed x ks
+  pub answer : build sh bytes ks ≡ leaves (says 0) after
+  pub table : PlainTable sh after
+  pub list-after : listOf sh after ≡ map (join sh) (ascend (entriesOf sh ks))
+  pub listed-after : (x : ℕ) → x < keys sh → listed x (listOf sh after) ≡ listed x ks

@@ -7,6 +7,7 @@ use table_packed::pack_find;
 use table_packed::pack_put;
 use table_put::put::put;
 ghost use mathlib.Core.Path.{_≡_};
+ghost use Rattle.rules.specs.Shape.{shapeOf};
 ghost use Rattle.rules.specs.Find.{find as spec-find};
 ghost use Rattle.rules.specs.Put.{put as spec-put};
 ghost use Rattle.rules.specs.Fill.{fill as spec-fill};
@@ -14,21 +15,21 @@ ghost use Rattle.table_packed.specs.Packed.{packed as packed-answer, gives, pac
 
 #[no_mangle]
 pub extern "C" fn wd_find(m: u32, r: u32, table: &[u8], key: u32) -> u64
-    ensures { λ x. ⌜ x ≡ packed-answer (spec-find m r (now (table .entry)) key) ⌝ }
+    ensures { λ x. ⌜ x ≡ packed-answer (spec-find (shapeOf m r) (now (table .entry)) key) ⌝ }
 {
     pack_find(find(m, r, table, key))
 }
 
 #[no_mangle]
 pub extern "C" fn wd_put(m: u32, r: u32, table: &mut [u8], key: u32) -> u64
-    ensures { λ x. ⌜ gives x (now (table .exit)) ≡ packedLeaves (spec-put m r (now (table .entry)) key) ⌝ }
+    ensures { λ x. ⌜ gives x (now (table .exit)) ≡ packedLeaves (spec-put (shapeOf m r) (now (table .entry)) key) ⌝ }
 {
     pack_put(put(m, r, table, key))
 }
 
 #[no_mangle]
 pub extern "C" fn wd_fill(m: u32, r: u32, table: &[u8]) -> u64
-    ensures { λ x. ⌜ x ≡ packed-answer (spec-fill m r (now (table .entry))) ⌝ }
+    ensures { λ x. ⌜ x ≡ packed-answer (spec-fill (shapeOf m r) (now (table .entry))) ⌝ }
 {
     pack_fill(fill(m, r, table))
 }

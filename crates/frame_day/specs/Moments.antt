@@ -17,7 +17,8 @@ use Rattle.rules.specs.Bytes.{wordsOf, bytesOf}
 use Rattle.rules.specs.Shape.{shapeOf, keys}
 use Rattle.rules.specs.Answer.{says, leaves}
 use Rattle.rules.specs.Record.{within, busy, atRest, fitsBusy, fits}
-use Rattle.rules.specs.Give.{given, noTask, taskAt, goodTask, giveTo, give}
+use Rattle.rules.specs.Give.{given, giveTo, give}
+use Rattle.rules.specs.Record.{noTask, taskAt, goodTask}
 use Rattle.rules.specs.Step.{lentAfter, step}
 use Rattle.table_words.specs.Range.{good-table, remainders-high, range-in}
 use Rattle.theory.specs.Dealt.{and-left, and-right, and-both}

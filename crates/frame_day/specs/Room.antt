@@ -16,7 +16,7 @@ use Rattle.rules.specs.Lists.{bitOf, count, all, any}
 use Rattle.rules.specs.Shape.{shapeOf, homes, remainders, keys}
 use Rattle.rules.specs.Entry.{Entry, join}
 use Rattle.rules.specs.Lay.{holds, ascend}
-use Rattle.rules.specs.Give.{noTask}
+use Rattle.rules.specs.Record.{noTask}
 use Rattle.theory.specs.Every.{All}
 use Rattle.theory.specs.Insert.{ascend-asc, holds-ascend}
 use Rattle.theory.specs.Dealt.{and-left, and-right, and-both, or-left, or-right}

@@ -14,7 +14,8 @@ use borrow.Author.Tests.{eqb-true, le-leb}
 use Rattle.rules.specs.declared.Task.{Task}
 use Rattle.rules.specs.Lists.{bitOf, count}
 use Rattle.rules.specs.Record.{atRest}
-use Rattle.rules.specs.Give.{given, noTask, taskAt}
+use Rattle.rules.specs.Give.{given}
+use Rattle.rules.specs.Record.{noTask, taskAt}
 use Rattle.frame_rules.specs.Rounds.{Floor, start}
 use Rattle.together.specs.Machine.{Said}
 use Rattle.together.specs.History.{heard}

@@ -9,7 +9,7 @@ use lib.ListN.{length, take, replicate}
 use lib.Dec.{eqb, leb}
 use Rattle.rules.specs.Lists.{count}
 use Rattle.rules.specs.Shape.{shapeOf}
-use Rattle.rules.specs.Give.{noTask}
+use Rattle.rules.specs.Record.{noTask}
 use Rattle.frame_rules.specs.Digits.{digitsOf}
 use Rattle.frame_rules.specs.Lines.{First, keysOf, goodLine}
 use Rattle.frame_rules.specs.Rounds.{Floor, allAnswered, play}

@@ -13,7 +13,7 @@ use Rattle.rules.specs.declared.Shape.{Shape}
 use Rattle.rules.specs.Lists.{all}
 use Rattle.rules.specs.Shape.{shapeOf, homes}
 use Rattle.table_words.specs.Range.{InRange}
-use Rattle.rules.specs.Give.{noTask}
+use Rattle.rules.specs.Record.{noTask}
 use Rattle.frame_rules.specs.Rounds.{Floor, start, allAnswered, rounds, limit, play}
 use Rattle.frame_rules.specs.Call.{Line, refused, leftAlone, played}
 use Rattle.frame_rounds.specs.declared.round.Desk.{Desk}

@@ -15,7 +15,8 @@ use Rattle.rules.specs.Shape.{shapeOf, inRange, keys, places, goodTable}
 use Rattle.rules.specs.Record.{homePlaceOf, atRest}
 use Rattle.rules.specs.Answer as answer
 use Rattle.rules.specs.Answer.{Leaves, leaves}
-use Rattle.rules.specs.Give.{taskAt, goodTask, giveTo, storedAt, give}
+use Rattle.rules.specs.Give.{giveTo, storedAt, give}
+use Rattle.rules.specs.Record.{taskAt, goodTask}
 use Rattle.rules.specs.Phase as phase
 use Rattle.rules.specs.Phase.{Step, to, unsound, exchange, marked, setChange, setVirgin}
 use Rattle.rules.specs.Step.{Lent, Stepped, steps, refused, ofPhase, orUnsound, stepOf, lentAfter, step}

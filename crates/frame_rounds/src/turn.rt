@@ -10,7 +10,7 @@ ghost use mathlib.Core.Bool.{true};
 ghost use Prim.Native.Nat.{_<_};
 ghost use lib.ListN.{length, getD};
 ghost use Rattle.rules.specs.Lists.{all};
-ghost use Rattle.task_step.specs.Given.{turnSays};
+ghost use Rattle.rules.specs.Answer.{turnSays};
 ghost use Rattle.frame_rules.specs.Digits.{isDigit};
 ghost use Rattle.frame_rules.specs.Lines.{keysOf};
 ghost use Rattle.frame_rounds.specs.Sitting.{leftTask, sat, answered, takeNext, makeStep, turnOne};

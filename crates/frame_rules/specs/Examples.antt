@@ -21,7 +21,8 @@ use Rattle.rules.specs.Phase.{home, lookLeft, lookRight, lockLeft, lockRight, b
 use Rattle.rules.specs.Phase.{handOf, goalOf, readEntries, read, movesOn, fillHand, neighbour, exchange, move}
 use Rattle.rules.specs.Phase.{setChange, setVirgin, marked, mark, freeLeft, freeRight}
 use Rattle.rules.specs.Step.{ofPhase, stepOf, step}
-use Rattle.rules.specs.Give.{given, goodTask, giveTo, give}
+use Rattle.rules.specs.Give.{given, giveTo, give}
+use Rattle.rules.specs.Record.{goodTask}
 use Rattle.frame_rules.specs.Digits.{isDigit, worth, numberAfter, number, glyph, digitsOf, wordDigits}
 use Rattle.frame_rules.specs.Lines.{linesAfter, linesOf, firstOf, inLimits, goodFirst, firstKeys, keysOf, goodLine}
 use Rattle.frame_rules.specs.Rounds.{start, turn, turns, round, allAnswered, rounds, limit, play}

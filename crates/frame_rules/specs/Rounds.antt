@@ -10,7 +10,8 @@ use Rattle.rules.specs.declared.Task.{Task}
 use Rattle.rules.specs.Lists.{all}
 use Rattle.rules.specs.Record.{atRest}
 use Rattle.rules.specs.Answer.{Leaves, leaves}
-use Rattle.rules.specs.Give.{noTask, taskAt, give}
+use Rattle.rules.specs.Give.{give}
+use Rattle.rules.specs.Record.{noTask, taskAt}
 use Rattle.rules.specs.Step.{Lent, step}
 
 -- where a line stands: the table, the tasks, which of the line's keys each task holds (by number, from 0), how many

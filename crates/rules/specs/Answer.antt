@@ -16,6 +16,9 @@ use Rattle.rules.specs.declared.FillAnswer.{FillAnswer}
 use Rattle.rules.specs.declared.FillAnswer.the-variants as fill-answer
 use Rattle.rules.specs.declared.Done.{Done}
 use Rattle.rules.specs.declared.Done.the-variants as done
+use Rattle.rules.specs.declared.Task.{Task}
+use Rattle.rules.specs.declared.Turn.{Turn}
+use Rattle.rules.specs.declared.Turn.the-variants as turn
 
 pub record Answer : Type 0 where
   pub number : ℕ
@@ -69,3 +72,8 @@ fillSays (fill-answer.Refused n) = refuses (numberOfRefusal n)
 abbrev pub doneSays : Done → Answer
 doneSays done.Accepted = says 0
 doneSays (done.Refused n) = refuses (numberOfRefusal n)
+
+-- give and step on a record by value: 0 and the record that follows, or a refusal's number and the record as it was
+abbrev pub turnSays : Task → Turn → Leaves Task
+turnSays t (turn.Next u) = leaves (says 0) u
+turnSays t (turn.Refused n) = leaves (refuses (numberOfRefusal n)) t

@@ -10,7 +10,7 @@ use Rattle.rules.specs.declared.Shape.{Shape}
 use Rattle.rules.specs.Lists.{all}
 use Rattle.rules.specs.Word.{Word, zeroWord}
 use Rattle.rules.specs.Bytes.{bytesOf}
-use Rattle.rules.specs.Shape.{shapeOf, keys, homes, places, goodTable}
+use Rattle.rules.specs.Shape.{keys, homes, places, goodTable}
 use Rattle.rules.specs.Entry.{Entry, split}
 use Rattle.rules.specs.Lay.{ascend}
 use Rattle.rules.specs.Answer.{says, refuses, Leaves, leaves}
@@ -36,11 +36,11 @@ buildIn sh bytes es =
     (leaves (refuses 8) (replicate (length bytes) 0))
     (leaves (says 0) (bytesOf (puts sh (zeros sh) es)))
 
--- build (m, r, the lent table, keys), with the table as it is left
-unfoldable pub build : ℕ → ℕ → List ℕ → List ℕ → Leaves (List ℕ)
-build m r bytes ks =
-    cond (goodTable (shapeOf m r) (length bytes))
-    (cond (all (λ (key : ℕ). ltb key (keys (shapeOf m r))) ks)
-    (buildIn (shapeOf m r) bytes (map (split (shapeOf m r)) ks))
+-- build (the shape, the lent table, keys), with the table as it is left
+unfoldable pub build : Shape → List ℕ → List ℕ → Leaves (List ℕ)
+build sh bytes ks =
+    cond (goodTable sh (length bytes))
+    (cond (all (λ (key : ℕ). ltb key (keys sh)) ks)
+    (buildIn sh bytes (map (split sh) ks))
     (leaves (refuses 2) bytes))
     (leaves (refuses 1) bytes)

@@ -5,7 +5,7 @@ use Prim.Native.Nat.{ℕ, zero, suc}
 use mathlib.Core.Path.{_≡_, refl}
 use mathlib.Core.List.{List, [], _∷_, map}
 use Rattle.rules.specs.declared.Task.{Task}
-use Rattle.rules.specs.Lists.{count, all, any}
+use Rattle.rules.specs.Lists.{count, all, any, atFront}
 use Rattle.rules.specs.Word.{wordOf, numberOf, isVoid, isZero, isLock}
 use Rattle.rules.specs.Bytes.{wordsOf, bytesOf}
 use Rattle.rules.specs.Shape.{inRange, homes, remainders, keys, places, rightGuard, fitsLength, goodTable}
@@ -21,13 +21,13 @@ use Rattle.rules.specs.Answer.{says, refuses, Leaves, leaves}
 use Rattle.rules.specs.Find.{around, soundAround, lockedAround, findIn, find}
 use Rattle.rules.specs.Put.{layRun, enlargedFrom, addAt, putIn, put}
 use Rattle.rules.specs.Build.{zeros, puts, tooMany, buildIn, build}
-use Rattle.rules.specs.Listing.{atFront, listIn, listing}
+use Rattle.rules.specs.Listing.{listIn, listing}
 use Rattle.rules.specs.Fill.{figure, fill}
-use Rattle.rules.specs.Record.{homePlaceOf, busy, atRest, fitsHand, fitsBusy, fits}
-use Rattle.rules.specs.Give.{given, taskAt, goodTask}
+use Rattle.rules.specs.Record.{homePlaceOf, busy, atRest, fitsHand, fitsBusy, fits, taskAt, goodTask}
+use Rattle.rules.specs.Give.{given}
 use Rattle.rules.specs.Phase as phase
 use Rattle.rules.specs.Step.{ofPhase, stepOf, Lent, step}
-use Rattle.rules.specs.Examples.{Row, tableOf, evening}
+use Rattle.rules.specs.Examples.{shape34, shape11, Row, tableOf, evening}
 
 -- 35 alone in a table of shape 3, 4
 abbrev alone : List ℕ
@@ -39,7 +39,7 @@ lent (leaves a l) = l
 -- so many steps of a lone task
 unfoldable pub stepped : ℕ → Lent → Lent
 stepped zero l = l
-stepped (suc n) l = stepped n (lent (step 3 4 (l .table) (l .tasks) 0))
+stepped (suc n) l = stepped n (lent (step shape34 (l .table) (l .tasks) 0))
 
 -- the answer in the record and the bytes, after so many steps of a lone task with a key, 35 in the table
 unfoldable pub lone : ℕ → ℕ → Leaves (List ℕ)
@@ -57,15 +57,15 @@ after n ns =
 
 -- what list says of a table of shape 1, 1
 abbrev shown : List ℕ → Leaves (List ℕ)
-shown ns = listing 1 1 (tableOf ns) (7 ∷ 7 ∷ [])
+shown ns = listing shape11 (tableOf ns) (7 ∷ 7 ∷ [])
 
 abbrev unsound : Leaves (List ℕ)
 unsound = leaves (refuses 6) (7 ∷ 7 ∷ [])
 
 abbrev pub edges : List Row
 edges =
-    record { call = leaves (fill 3 4 (tableOf evening)) []; paper = leaves (says 400) [] }
-    ∷ record { call = leaves (find 3 4 (tableOf evening) 0x80) []; paper = leaves (refuses 2) [] }
+    record { call = leaves (fill shape34 (tableOf evening)) []; paper = leaves (says 400) [] }
+    ∷ record { call = leaves (find shape34 (tableOf evening) 0x80) []; paper = leaves (refuses 2) [] }
     ∷ record { call = shown (0x0000 ∷ 0x8000 ∷ 0x0000 ∷ 0x0000 ∷ []); paper = leaves (refuses 7) (7 ∷ 7 ∷ []) }
     ∷ record { call = shown (0x0000 ∷ 0x3000 ∷ 0x5001 ∷ []); paper = leaves (refuses 1) (7 ∷ 7 ∷ []) }
     -- one virgin bit and two change bits
@@ -104,7 +104,7 @@ edges =
       paper = leaves (says 2) (tableOf (0 ∷ 0 ∷ 0 ∷ 0x1005 ∷ 0x7006 ∷ 0 ∷ 0 ∷ 0 ∷ 0 ∷ 0 ∷ []));
     }
     ∷ record {
-      call = put 3 4 alone 0x36;
+      call = put shape34 alone 0x36;
       paper = leaves (says 2) (tableOf (0 ∷ 0 ∷ 0 ∷ 0x1005 ∷ 0x7006 ∷ 0 ∷ 0 ∷ 0 ∷ 0 ∷ 0 ∷ []));
     }
     ∷ []

@@ -5,10 +5,11 @@ use Prim.Native.Nat.{ℕ, _%_, _/_}
 use mathlib.Core.Path.{_≡_, refl}
 use mathlib.Core.List.{List, [], _∷_, map}
 use lib.ListN.{replicate}
-use Rattle.rules.specs.Lists.{count, all, any}
+use Rattle.rules.specs.declared.Shape.{Shape}
+use Rattle.rules.specs.Lists.{count, all, any, atFront}
 use Rattle.rules.specs.Word.{wordOf, numberOf, isVoid}
 use Rattle.rules.specs.Bytes.{wordsOf, bytesOf}
-use Rattle.rules.specs.Shape.{inRange, homes, remainders, keys, places, rightGuard, fitsLength, goodTable}
+use Rattle.rules.specs.Shape.{shapeOf, inRange, homes, remainders, keys, places, rightGuard, fitsLength, goodTable}
 use Rattle.rules.specs.Entry.{placeOfHome, homeOfPlace, homeOf, remainderOf, split, join, sameHome, sameEntry}
 use Rattle.rules.specs.Entry.{precedes}
 use Rattle.rules.specs.Table.{occupiedPlaces, leftGap, lead, rightGap, cluster, endsInChange, rising, soundRun}
@@ -21,7 +22,14 @@ use Rattle.rules.specs.Answer.{says, refuses, Leaves, leaves}
 use Rattle.rules.specs.Find.{around, soundAround, lockedAround, findIn, find}
 use Rattle.rules.specs.Put.{layRun, enlargedFrom, addAt, putIn, put}
 use Rattle.rules.specs.Build.{zeros, puts, tooMany, buildIn, build}
-use Rattle.rules.specs.Listing.{atFront, listIn, listing}
+use Rattle.rules.specs.Listing.{listIn, listing}
+
+-- the two shapes of the examples
+abbrev pub shape34 : Shape
+shape34 = shapeOf 3 4
+
+abbrev pub shape11 : Shape
+shape11 = shapeOf 1 1
 
 -- what a call gives by the definitions, and what the paper says
 pub record Row : Type 0 where
@@ -47,37 +55,37 @@ smallest = 0x0000 ∷ 0x3000 ∷ 0x5001 ∷ 0x0000 ∷ []
 abbrev pub rows : List Row
 rows =
     record {
-      call = build 3 4 (stale 10) (0x35 ∷ 0x31 ∷ 0x4C ∷ 0x38 ∷ []);
+      call = build shape34 (stale 10) (0x35 ∷ 0x31 ∷ 0x4C ∷ 0x38 ∷ []);
       paper = leaves (says 0) (tableOf evening);
     }
     ∷ record {
-      call = build 3 4 (stale 10) (0x38 ∷ 0x4C ∷ 0x31 ∷ 0x35 ∷ []);
+      call = build shape34 (stale 10) (0x38 ∷ 0x4C ∷ 0x31 ∷ 0x35 ∷ []);
       paper = leaves (says 0) (tableOf evening);
     }
     ∷ record {
-      call = listing 3 4 (tableOf evening) (7 ∷ 7 ∷ 7 ∷ 7 ∷ 7 ∷ []);
+      call = listing shape34 (tableOf evening) (7 ∷ 7 ∷ 7 ∷ 7 ∷ 7 ∷ []);
       paper = leaves (says 4) (0x31 ∷ 0x35 ∷ 0x38 ∷ 0x4C ∷ 7 ∷ []);
     }
-    ∷ record { call = leaves (find 3 4 (tableOf evening) 0x34) []; paper = leaves (says 0) [] }
-    ∷ record { call = leaves (find 3 4 (tableOf evening) 0x38) []; paper = leaves (says 1) [] }
+    ∷ record { call = leaves (find shape34 (tableOf evening) 0x34) []; paper = leaves (says 0) [] }
+    ∷ record { call = leaves (find shape34 (tableOf evening) 0x38) []; paper = leaves (says 1) [] }
     ∷ record {
-      call = build 3 4 (stale 10) (0x7F ∷ 0x7E ∷ []);
+      call = build shape34 (stale 10) (0x7F ∷ 0x7E ∷ []);
       paper = leaves (says 0) (tableOf (0 ∷ 0 ∷ 0 ∷ 0 ∷ 0 ∷ 0 ∷ 0 ∷ 0x100E ∷ 0x700F ∷ 0 ∷ []));
     }
-    ∷ record { call = build 3 4 (stale 10) []; paper = leaves (says 0) (tableOf (replicate 10 0)) }
-    ∷ record { call = build 1 1 (stale 4) (0 ∷ 1 ∷ []); paper = leaves (says 0) (tableOf smallest) }
-    ∷ record { call = put 1 1 (tableOf smallest) 2; paper = leaves (refuses 8) (tableOf smallest) }
-    ∷ record { call = put 1 1 (tableOf smallest) 1; paper = leaves (says 1) (tableOf smallest) }
+    ∷ record { call = build shape34 (stale 10) []; paper = leaves (says 0) (tableOf (replicate 10 0)) }
+    ∷ record { call = build shape11 (stale 4) (0 ∷ 1 ∷ []); paper = leaves (says 0) (tableOf smallest) }
+    ∷ record { call = put shape11 (tableOf smallest) 2; paper = leaves (refuses 8) (tableOf smallest) }
+    ∷ record { call = put shape11 (tableOf smallest) 1; paper = leaves (says 1) (tableOf smallest) }
     ∷ record {
-      call = build 1 1 (stale 4) (3 ∷ 2 ∷ []);
+      call = build shape11 (stale 4) (3 ∷ 2 ∷ []);
       paper = leaves (says 0) (tableOf (0x0000 ∷ 0x1000 ∷ 0x7001 ∷ 0x0000 ∷ []));
     }
     ∷ record {
-      call = listing 1 1 (tableOf (0x0000 ∷ 0x3000 ∷ 0x5000 ∷ 0x0000 ∷ [])) (7 ∷ 7 ∷ []);
+      call = listing shape11 (tableOf (0x0000 ∷ 0x3000 ∷ 0x5000 ∷ 0x0000 ∷ [])) (7 ∷ 7 ∷ []);
       paper = leaves (refuses 6) (7 ∷ 7 ∷ []);
     }
     ∷ record {
-      call = listing 1 1 (tableOf (0x0000 ∷ 0x2000 ∷ 0x0000 ∷ 0x0000 ∷ [])) (7 ∷ 7 ∷ []);
+      call = listing shape11 (tableOf (0x0000 ∷ 0x2000 ∷ 0x0000 ∷ 0x0000 ∷ [])) (7 ∷ 7 ∷ []);
       paper = leaves (refuses 6) (7 ∷ 7 ∷ []);
     }
     ∷ []

@@ -11,7 +11,7 @@ use Rattle.rules.specs.declared.Shape.{Shape}
 use Rattle.rules.specs.Lists.{bitOf}
 use Rattle.rules.specs.Word.{Word, isVoid}
 use Rattle.rules.specs.Bytes.{wordsOf}
-use Rattle.rules.specs.Shape.{shapeOf, keys, goodTable}
+use Rattle.rules.specs.Shape.{keys, goodTable}
 use Rattle.rules.specs.Entry.{Entry, split}
 use Rattle.rules.specs.Table.{at, occupiedPlaces, leftGap, rightGap, cluster, soundRun, clusterEntries, guardsVoid}
 use Rattle.rules.specs.Table.{locked}
@@ -39,11 +39,11 @@ findIn sh ws e =
     (cond (lockedAround ws (e .homePlace)) (refuses 7) (says (bitOf (holds e (clusterEntries ws (e .homePlace))))))
     (refuses 6)
 
--- find (m, r, the lent table, key)
-unfoldable pub find : ℕ → ℕ → List ℕ → ℕ → Answer
-find m r bytes key =
-    cond (goodTable (shapeOf m r) (length bytes))
-    (cond (ltb key (keys (shapeOf m r)))
-    (findIn (shapeOf m r) (wordsOf bytes) (split (shapeOf m r) key))
+-- find (the shape, the lent table, key)
+unfoldable pub find : Shape → List ℕ → ℕ → Answer
+find sh bytes key =
+    cond (goodTable sh (length bytes))
+    (cond (ltb key (keys sh))
+    (findIn sh (wordsOf bytes) (split sh key))
     (refuses 2))
     (refuses 1)

@@ -3,19 +3,16 @@
 -- Assumes nothing.
 use Prim.Native.Nat.{ℕ}
 use mathlib.Core.Bool.{cond}
-use mathlib.Core.List.{List, _++_}
-use lib.ListN.{length, drop}
+use mathlib.Core.List.{List}
+use lib.ListN.{length}
 use lib.Dec.{leb}
 use Rattle.rules.specs.declared.Shape.{Shape}
+use Rattle.rules.specs.Lists.{atFront}
 use Rattle.rules.specs.Word.{Word}
 use Rattle.rules.specs.Bytes.{wordsOf}
-use Rattle.rules.specs.Shape.{shapeOf, goodTable}
+use Rattle.rules.specs.Shape.{goodTable}
 use Rattle.rules.specs.Table.{list, sound, locked}
 use Rattle.rules.specs.Answer.{says, refuses, Leaves, leaves}
-
--- keys at the front, the remaining slots as they were
-unfoldable pub atFront : List ℕ → List ℕ → List ℕ
-atFront ks slots = ks ++ drop (length ks) slots
 
 unfoldable pub listIn : Shape → List Word → List ℕ → Leaves (List ℕ)
 listIn sh ws slots =
@@ -27,10 +24,10 @@ listIn sh ws slots =
     (leaves (refuses 9) slots)))
     (leaves (refuses 6) slots)
 
--- list (m, r, the lent table, the lent slots), with the slots as they are left
-unfoldable pub listing : ℕ → ℕ → List ℕ → List ℕ → Leaves (List ℕ)
-listing m r bytes slots =
+-- list (the shape, the lent table, the lent slots), with the slots as they are left
+unfoldable pub listing : Shape → List ℕ → List ℕ → Leaves (List ℕ)
+listing sh bytes slots =
     cond
-    (goodTable (shapeOf m r) (length bytes))
-    (listIn (shapeOf m r) (wordsOf bytes) slots)
+    (goodTable sh (length bytes))
+    (listIn sh (wordsOf bytes) slots)
     (leaves (refuses 1) slots)

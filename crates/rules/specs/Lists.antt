@@ -1,8 +1,10 @@
--- Tests and counts over a list, for the definitions beside this file: `bitOf`, `count`, `all`, `any`.
+-- Tests and counts over a list, for the definitions beside this file: `bitOf`, `count`, `all`, `any`; and what is
+-- written to the front of lent slots, `atFront`.
 -- Assumes nothing.
 use Prim.Native.Nat.{ℕ, _+_}
 use mathlib.Core.Bool.{Bool, true, false, _&&_, _||_}
-use mathlib.Core.List.{List, [], _∷_}
+use mathlib.Core.List.{List, [], _∷_, _++_}
+use lib.ListN.{length, drop}
 
 -- a bit as a number
 abbrev pub bitOf : Bool → ℕ
@@ -24,3 +26,7 @@ module _ {A : Type 0} where
   unfoldable pub any : (A → Bool) → List A → Bool
   any f [] = false
   any f (x ∷ xs) = f x || any f xs
+
+-- numbers at the front of lent slots; the slots behind them stay as they were
+unfoldable pub atFront : List ℕ → List ℕ → List ℕ
+atFront ks slots = ks ++ drop (length ks) slots

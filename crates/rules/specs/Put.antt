@@ -10,7 +10,7 @@ use lib.Dec.{ltb}
 use Rattle.rules.specs.declared.Shape.{Shape}
 use Rattle.rules.specs.Word.{Word}
 use Rattle.rules.specs.Bytes.{wordsOf, bytesOf}
-use Rattle.rules.specs.Shape.{shapeOf, keys, goodTable}
+use Rattle.rules.specs.Shape.{keys, goodTable}
 use Rattle.rules.specs.Entry.{Entry, split}
 use Rattle.rules.specs.Table.{occupiedPlaces, leftGap, clusterEntries}
 use Rattle.rules.specs.Room.{Room, place, full, roomFor}
@@ -60,11 +60,11 @@ abbrev pub bytesAfter : List ℕ → Outcome → Leaves (List ℕ)
 bytesAfter bytes (keeps a) = leaves a bytes
 bytesAfter bytes (writes a ws) = leaves a (bytesOf ws)
 
--- put (m, r, the lent table, key), with the table as it is left
-unfoldable pub put : ℕ → ℕ → List ℕ → ℕ → Leaves (List ℕ)
-put m r bytes key =
-    cond (goodTable (shapeOf m r) (length bytes))
-    (cond (ltb key (keys (shapeOf m r)))
-    (bytesAfter bytes (putIn (shapeOf m r) (wordsOf bytes) (split (shapeOf m r) key)))
+-- put (the shape, the lent table, key), with the table as it is left
+unfoldable pub put : Shape → List ℕ → ℕ → Leaves (List ℕ)
+put sh bytes key =
+    cond (goodTable sh (length bytes))
+    (cond (ltb key (keys sh))
+    (bytesAfter bytes (putIn sh (wordsOf bytes) (split sh key)))
     (leaves (refuses 2) bytes))
     (leaves (refuses 1) bytes)

@@ -1,12 +1,26 @@
--- A task's record (01, Tasks and their steps): its fields changed one at a time, and when it fits.
+-- A task's record (01, Tasks and their steps): the one with a task number, when it fits, and its fields changed one at
+-- a time.
 -- Assumes nothing.
 use Prim.Native.Nat.{ℕ, suc}
 use mathlib.Core.Bool.{Bool, not, _&&_, _||_}
+use mathlib.Core.List.{List}
+use lib.ListN.{length, getD}
 use lib.Dec.{ltb, leb, eqb}
 use Rattle.rules.specs.declared.Shape.{Shape}
 use Rattle.rules.specs.declared.Task.{Task}
 use Rattle.rules.specs.Shape.{homes, keys, rightGuard}
 use Rattle.rules.specs.Entry.{split}
+
+-- the record that `taskAt` gives where there is none; no answer depends on it
+abbrev pub noTask : Task
+noTask = record { key = 0; phase = 0; left = 0; right = 0; hand = 0; goal = 0; mark = 0; answer = 0 }
+
+abbrev pub taskAt : List Task → ℕ → Task
+taskAt ts i = getD ts i noTask
+
+-- 1 to 16 records, and a task number below their count
+unfoldable pub goodTask : List Task → ℕ → Bool
+goodTask ts i = leb (length ts) 16 && ltb i (length ts)
 
 -- H, the home place of the record's key
 unfoldable pub homePlaceOf : Shape → Task → ℕ

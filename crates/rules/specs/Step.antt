@@ -10,11 +10,10 @@ use Rattle.rules.specs.declared.Shape.{Shape}
 use Rattle.rules.specs.declared.Task.{Task}
 use Rattle.rules.specs.Word.{Word}
 use Rattle.rules.specs.Bytes.{wordsOf, bytesOf}
-use Rattle.rules.specs.Shape.{shapeOf, goodTable}
+use Rattle.rules.specs.Shape.{goodTable}
 use Rattle.rules.specs.Table.{guardsVoid}
 use Rattle.rules.specs.Answer.{says, refuses, Leaves, leaves}
-use Rattle.rules.specs.Record.{atRest, fits}
-use Rattle.rules.specs.Give.{taskAt, goodTask}
+use Rattle.rules.specs.Record.{atRest, fits, taskAt, goodTask}
 use Rattle.rules.specs.Phase as phase
 use Rattle.rules.specs.Phase.{Step, to, unsound}
 
@@ -58,11 +57,11 @@ abbrev pub lentAfter : List ℕ → List Task → ℕ → Stepped → Leaves Len
 lentAfter bytes ts i (steps t ws) = leaves (says 0) (record { table = bytesOf ws; tasks = set ts i t })
 lentAfter bytes ts i (refused n) = leaves (refuses n) (record { table = bytes; tasks = ts })
 
--- step (m, r, the lent table, the lent records, task number)
-unfoldable pub step : ℕ → ℕ → List ℕ → List Task → ℕ → Leaves Lent
-step m r bytes ts i =
-    cond (goodTable (shapeOf m r) (length bytes))
+-- step (the shape, the lent table, the lent records, task number)
+unfoldable pub step : Shape → List ℕ → List Task → ℕ → Leaves Lent
+step sh bytes ts i =
+    cond (goodTable sh (length bytes))
     (cond (goodTask ts i)
-    (lentAfter bytes ts i (stepOf (shapeOf m r) (wordsOf bytes) (taskAt ts i)))
+    (lentAfter bytes ts i (stepOf sh (wordsOf bytes) (taskAt ts i)))
     (leaves (refuses 3) (record { table = bytes; tasks = ts })))
     (leaves (refuses 1) (record { table = bytes; tasks = ts }))

@@ -14,7 +14,7 @@ ghost use Prim.Native.Nat.{_*_, _≤_};
 ghost use lib.ListN.{length};
 ghost use Rattle.rules.specs.Lists.{count};
 ghost use Rattle.rules.specs.Bytes.{wordsOf};
-ghost use Rattle.rules.specs.Shape.{places};
+ghost use Rattle.rules.specs.Shape.{shapeOf, places};
 ghost use Rattle.rules.specs.Fill.{figure as spec-figure, fill as spec-fill};
 ghost use Rattle.rules.specs.Answer.{fillSays};
 ghost use Rattle.table_words.specs.Range.{InRange};
@@ -45,7 +45,7 @@ fn figure(sh: Shape, table: &[u8]) -> u32
 }
 
 pub fn fill(m: u32, r: u32, table: &[u8]) -> FillAnswer
-    ensures { λ a. ⌜ fillSays a ≡ spec-fill m r (now (table .entry)) ⌝ }
+    ensures { λ a. ⌜ fillSays a ≡ spec-fill (shapeOf m r) (now (table .entry)) ⌝ }
 {
     if good_table(m, r, table.len()) {
         FillAnswer::Figure(figure(shape_of(m, r), table))

@@ -26,7 +26,7 @@ ghost use lib.ListN.{length};
 ghost use Rattle.rules.specs.Lists.{bitOf};
 ghost use Rattle.rules.specs.Word.{wordOf};
 ghost use Rattle.rules.specs.Bytes.{wordsOf};
-ghost use Rattle.rules.specs.Shape.{keys, places};
+ghost use Rattle.rules.specs.Shape.{shapeOf, keys, places};
 ghost use Rattle.rules.specs.Entry.{split};
 ghost use Rattle.rules.specs.Table.{at, guardsVoid};
 ghost use Rattle.rules.specs.Answer.{says, findSays};
@@ -112,7 +112,7 @@ fn find_key(sh: Shape, table: &[u8], key: u32) -> FindAnswer
 }
 
 pub fn find(m: u32, r: u32, table: &[u8], key: u32) -> FindAnswer
-    ensures { λ a. ⌜ findSays a ≡ spec-find m r (now (table .entry)) key ⌝ }
+    ensures { λ a. ⌜ findSays a ≡ spec-find (shapeOf m r) (now (table .entry)) key ⌝ }
 {
     if good_table(m, r, table.len()) {
         let sh = shape_of(m, r);

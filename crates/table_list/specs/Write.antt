@@ -16,7 +16,7 @@ use Rattle.rules.specs.Bytes.{wordsOf}
 use Rattle.rules.specs.Entry.{Entry, join}
 use Rattle.rules.specs.Shape.{remainders, places}
 use Rattle.rules.specs.Table.{at, entries, list, guardsVoid, sound}
-use Rattle.rules.specs.Listing.{atFront}
+use Rattle.rules.specs.Lists.{atFront}
 use Rattle.table_words.specs.Range.{InRange, remainders-high}
 use Rattle.table_words.specs.Split.{InShape}
 use Rattle.table_words.specs.Layout.{words-length}

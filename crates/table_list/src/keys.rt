@@ -17,7 +17,7 @@ ghost use Rattle.rules.specs.Lists.{bitOf};
 ghost use Rattle.rules.specs.Word.{wordOf};
 ghost use Rattle.rules.specs.Bytes.{wordsOf};
 ghost use Rattle.rules.specs.Table.{at, list};
-ghost use Rattle.rules.specs.Listing.{atFront};
+ghost use Rattle.rules.specs.Lists.{atFront};
 ghost use Rattle.table_list.specs.Scan.{keyFrom, homeFrom, Homed};
 ghost use Rattle.table_list.specs.Write.{Listable};
 

@@ -10,7 +10,7 @@ ghost use mathlib.Core.Path.{_≡_};
 ghost use Prim.Native.Nat.{_*_};
 ghost use lib.ListN.{length};
 ghost use Rattle.rules.specs.Bytes.{wordsOf};
-ghost use Rattle.rules.specs.Shape.{places};
+ghost use Rattle.rules.specs.Shape.{shapeOf, places};
 ghost use Rattle.rules.specs.Answer.{listSays, leaves};
 ghost use Rattle.rules.specs.Listing.{listIn, listing};
 ghost use Rattle.table_words.specs.Range.{InRange};
@@ -41,7 +41,7 @@ fn list_in(sh: Shape, table: &[u8], slots: &mut [u32]) -> ListAnswer
 // The answer has the paper's number and count; the slots are left as they were where the call is refused.
 pub fn list(m: u32, r: u32, table: &[u8], slots: &mut [u32]) -> ListAnswer
     ensures { λ x. ⌜ leaves (listSays x) (now (slots .exit))
-        ≡ listing m r (now (table .entry)) (now (slots .entry)) ⌝ }
+        ≡ listing (shapeOf m r) (now (table .entry)) (now (slots .entry)) ⌝ }
 {
     if good_table(m, r, table.len()) {
         list_in(shape_of(m, r), table, slots)

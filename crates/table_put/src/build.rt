@@ -17,7 +17,7 @@ ghost use lib.ListN.{length};
 ghost use lib.Dec.{ltb};
 ghost use Rattle.rules.specs.Lists.{all};
 ghost use Rattle.rules.specs.Bytes.{wordsOf};
-ghost use Rattle.rules.specs.Shape.{places, keys as keys-of};
+ghost use Rattle.rules.specs.Shape.{shapeOf, places, keys as keys-of};
 ghost use Rattle.rules.specs.Entry.{split};
 ghost use Rattle.rules.specs.Answer.{leaves, doneSays};
 ghost use Rattle.rules.specs.Build.{buildIn, build as spec-build};
@@ -96,7 +96,7 @@ fn build_in(sh: Shape, table: &mut [u8], keys: &[u32]) -> Done
 
 pub fn build(m: u32, r: u32, table: &mut [u8], keys: &[u32]) -> Done
     ensures { λ a. ⌜ leaves (doneSays a) (now (table .exit))
-        ≡ spec-build m r (now (table .entry)) (now (keys .entry)) ⌝ }
+        ≡ spec-build (shapeOf m r) (now (table .entry)) (now (keys .entry)) ⌝ }
 {
     if good_table(m, r, table.len()) {
         let sh = shape_of(m, r);

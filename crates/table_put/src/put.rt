@@ -32,7 +32,7 @@ ghost use mathlib.Core.Bool.{true};
 ghost use Prim.Native.Nat.{_+_, _*_, _<_};
 ghost use lib.ListN.{length, set};
 ghost use Rattle.rules.specs.Bytes.{wordsOf};
-ghost use Rattle.rules.specs.Shape.{keys, places};
+ghost use Rattle.rules.specs.Shape.{shapeOf, keys, places};
 ghost use Rattle.rules.specs.Entry.{split};
 ghost use Rattle.rules.specs.Table.{at, guardsVoid};
 ghost use Rattle.rules.specs.Phase.{aloneWord};
@@ -211,7 +211,7 @@ pub fn put_clean(sh: Shape, table: &mut [u8], key: u32) -> PutAnswer
 }
 
 pub fn put(m: u32, r: u32, table: &mut [u8], key: u32) -> PutAnswer
-    ensures { λ a. ⌜ leaves (putSays a) (now (table .exit)) ≡ spec-put m r (now (table .entry)) key ⌝ }
+    ensures { λ a. ⌜ leaves (putSays a) (now (table .exit)) ≡ spec-put (shapeOf m r) (now (table .entry)) key ⌝ }
 {
     if good_table(m, r, table.len()) {
         let sh = shape_of(m, r);

@@ -10,24 +10,27 @@ use lib.ListN.{length, set, take, drop}
 use lib.Seq.{set-getD}
 use lib.Dec.{ltb, leb}
 use borrow.Author.Tests.{lt-ltb, le-ltb, le-leb, lt-leb}
+use Rattle.rules.specs.declared.Shape.{Shape}
 use Rattle.rules.specs.declared.Task.{Task}
 use Rattle.rules.specs.declared.Turn.{Turn}
 use Rattle.rules.specs.declared.Turn.the-variants.{Next, Refused}
-use Rattle.rules.specs.Shape.{shapeOf, inRange, keys, goodTable}
+use Rattle.rules.specs.Shape.{inRange, keys, goodTable}
 use Rattle.rules.specs.Answer.{Answer, refuses, Leaves, leaves}
-use Rattle.rules.specs.Give.{noTask, taskAt, goodTask, storedAt, give}
+use Rattle.rules.specs.Give.{storedAt, give}
+use Rattle.rules.specs.Record.{noTask, taskAt, goodTask}
 use Rattle.rules.specs.Step.{Lent, step}
-use Rattle.task_step.specs.Given.{turnSays, giveOne, give-one}
+use Rattle.task_step.specs.Given.{giveOne, give-one}
+use Rattle.rules.specs.Answer.{turnSays}
 use Rattle.task_step.specs.Stepping.{Left, stepSays, stepOne, lentOf, step-one}
 
 -- give, where no record has the task number
-unfoldable pub giveNone : ℕ → ℕ → ℕ → Answer
-giveNone m r key =
-    cond (inRange (shapeOf m r)) (cond (ltb key (keys (shapeOf m r))) (refuses 3) (refuses 2)) (refuses 1)
+unfoldable pub giveNone : Shape → ℕ → Answer
+giveNone sh key =
+    cond (inRange sh) (cond (ltb key (keys sh)) (refuses 3) (refuses 2)) (refuses 1)
 
 -- give, where one of n records has it
-unfoldable pub giveAt : ℕ → ℕ → ℕ → ℕ → Task → Leaves Task
-giveAt m r key n t = cond (leb n 16) (giveOne m r key t) (leaves (giveNone m r key) t)
+unfoldable pub giveAt : Shape → ℕ → ℕ → Task → Leaves Task
+giveAt sh key n t = cond (leb n 16) (giveOne sh key t) (leaves (giveNone sh key) t)
 
 -- an answer and a record, beside the lent bytes
 abbrev pub beside : List ℕ → Leaves Task → Leaves Left
@@ -38,13 +41,13 @@ turn-beside bytes t (Next u) = refl
 turn-beside bytes t (Refused n) = refl
 
 -- step, where no record has the task number
-unfoldable pub stepNone : ℕ → ℕ → ℕ → Answer
-stepNone m r len = cond (goodTable (shapeOf m r) len) (refuses 3) (refuses 1)
+unfoldable pub stepNone : Shape → ℕ → Answer
+stepNone sh len = cond (goodTable sh len) (refuses 3) (refuses 1)
 
 -- step, where one of n records has it
-unfoldable pub stepAt : ℕ → ℕ → List ℕ → ℕ → Task → Leaves Left
-stepAt m r bytes n t =
-    cond (leb n 16) (stepOne m r bytes t) (leaves (stepNone m r (length bytes)) (record { table = bytes; task = t }))
+unfoldable pub stepAt : Shape → List ℕ → ℕ → Task → Leaves Left
+stepAt sh bytes n t =
+    cond (leb n 16) (stepOne sh bytes t) (leaves (stepNone sh (length bytes)) (record { table = bytes; task = t }))
 
 -- whether a record has the task number, by the count of the records
 module _ (ts : List Task) (i : ℕ) where
@@ -56,11 +59,11 @@ module _ (ts : List Task) (i : ℕ) where
   unfolding goodTask
   far-bad far = rw (le-ltb i (length ts) far) (and-false (leb (length ts) 16))
 
-module _ (m r key : ℕ) (ts : List Task) (i : ℕ) where
+module _ (sh : Shape) (key : ℕ) (ts : List Task) (i : ℕ) where
   -- no record has the task number: nothing changes
-  give-bad : goodTask ts i ≡ false → leaves (giveNone m r key) ts ≡ give m r key ts i
+  give-bad : goodTask ts i ≡ false → leaves (giveNone sh key) ts ≡ give sh key ts i
   unfolding giveNone give
-  give-bad bad = rw bad (go (inRange (shapeOf m r)) (ltb key (keys (shapeOf m r))))
+  give-bad bad = rw bad (go (inRange sh) (ltb key (keys sh)))
     where
       go : (shape small : Bool) →
           leaves (cond shape (cond small (refuses 3) (refuses 2)) (refuses 1)) ts
@@ -69,17 +72,17 @@ module _ (m r key : ℕ) (ts : List Task) (i : ℕ) where
       go true false = refl
       go false small = refl
 
-  pub give-none : length ts ≤ i → (a : Answer) → a ≡ giveNone m r key → leaves a ts ≡ give m r key ts i
+  pub give-none : length ts ≤ i → (a : Answer) → a ≡ giveNone sh key → leaves a ts ≡ give sh key ts i
   give-none far a e = ap (λ (z : Answer). leaves z ts) e ∙ give-bad (far-bad ts i far)
 
   stored : (few : Bool) → leb (length ts) 16 ≡ few → i < length ts →
-      storedAt ts i (cond few (giveOne m r key (taskAt ts i)) (leaves (giveNone m r key) (taskAt ts i)))
-      ≡ give m r key ts i
-  stored true e near = sym (give-one m r key ts i (good-few ts i true e near))
-  stored false e near = ap (leaves (giveNone m r key)) (set-getD ts i noTask) ∙ give-bad (good-few ts i false e near)
+      storedAt ts i (cond few (giveOne sh key (taskAt ts i)) (leaves (giveNone sh key) (taskAt ts i)))
+      ≡ give sh key ts i
+  stored true e near = sym (give-one sh key ts i (good-few ts i true e near))
+  stored false e near = ap (leaves (giveNone sh key)) (set-getD ts i noTask) ∙ give-bad (good-few ts i false e near)
 
-  pub give-stores : i < length ts → (a : Answer) (t : Task) → leaves a t ≡ giveAt m r key (length ts) (taskAt ts i)
-      → leaves a (set ts i t) ≡ give m r key ts i
+  pub give-stores : i < length ts → (a : Answer) (t : Task) → leaves a t ≡ giveAt sh key (length ts) (taskAt ts i)
+      → leaves a (set ts i t) ≡ give sh key ts i
   unfolding giveAt
   give-stores near a t e = ap (storedAt ts i) e ∙ stored (leb (length ts) 16) refl near
 
@@ -87,10 +90,10 @@ module _ (m r key : ℕ) (ts : List Task) (i : ℕ) where
 abbrev still : Answer → List ℕ → List Task → Leaves Lent
 still a bytes ts = leaves a (record { table = bytes; tasks = ts })
 
-module _ (m r : ℕ) (bytes : List ℕ) (ts : List Task) (i : ℕ) where
-  step-bad : goodTask ts i ≡ false → still (stepNone m r (length bytes)) bytes ts ≡ step m r bytes ts i
+module _ (sh : Shape) (bytes : List ℕ) (ts : List Task) (i : ℕ) where
+  step-bad : goodTask ts i ≡ false → still (stepNone sh (length bytes)) bytes ts ≡ step sh bytes ts i
   unfolding stepNone step
-  step-bad bad = rw bad (go (goodTable (shapeOf m r) (length bytes)))
+  step-bad bad = rw bad (go (goodTable sh (length bytes)))
     where
       go : (good : Bool) →
           still (cond good (refuses 3) (refuses 1)) bytes ts
@@ -98,22 +101,22 @@ module _ (m r : ℕ) (bytes : List ℕ) (ts : List Task) (i : ℕ) where
       go true = refl
       go false = refl
 
-  pub step-none : length ts ≤ i → (a : Answer) → a ≡ stepNone m r (length bytes) → still a bytes ts
-      ≡ step m r bytes ts i
+  pub step-none : length ts ≤ i → (a : Answer) → a ≡ stepNone sh (length bytes) → still a bytes ts
+      ≡ step sh bytes ts i
   step-none far a e = ap (λ (z : Answer). still z bytes ts) e ∙ step-bad (far-bad ts i far)
 
   stored-beside : (few : Bool) → leb (length ts) 16 ≡ few → i < length ts →
       lentOf ts i
-      (cond few (stepOne m r bytes (taskAt ts i))
-      (leaves (stepNone m r (length bytes)) (record { table = bytes; task = taskAt ts i })))
-      ≡ step m r bytes ts i
-  stored-beside true e near = sym (step-one m r bytes ts i (good-few ts i true e near))
+      (cond few (stepOne sh bytes (taskAt ts i))
+      (leaves (stepNone sh (length bytes)) (record { table = bytes; task = taskAt ts i })))
+      ≡ step sh bytes ts i
+  stored-beside true e near = sym (step-one sh bytes ts i (good-few ts i true e near))
   stored-beside false e near =
-      ap (still (stepNone m r (length bytes)) bytes) (set-getD ts i noTask) ∙ step-bad (good-few ts i false e near)
+      ap (still (stepNone sh (length bytes)) bytes) (set-getD ts i noTask) ∙ step-bad (good-few ts i false e near)
 
   pub step-stores : i < length ts → (a : Answer) (after : List ℕ) (t : Task)
-      → leaves a (record { table = after; task = t }) ≡ stepAt m r bytes (length ts) (taskAt ts i)
-      → still a after (set ts i t) ≡ step m r bytes ts i
+      → leaves a (record { table = after; task = t }) ≡ stepAt sh bytes (length ts) (taskAt ts i)
+      → still a after (set ts i t) ≡ step sh bytes ts i
   unfolding stepAt
   step-stores near a after t e = ap (lentOf ts i) e ∙ stored-beside (leb (length ts) 16) refl near
 
@@ -124,31 +127,31 @@ front n ts (leaves a us) = leaves a (us ++ drop n ts)
 abbrev frontBeside : ℕ → List Task → Leaves Lent → Leaves Lent
 frontBeside n ts (leaves a x) = still a (x .table) (x .tasks ++ drop n ts)
 
-unfoldable pub giveAll : ℕ → ℕ → ℕ → List Task → ℕ → ℕ → Leaves (List Task)
-giveAll m r key ts n i =
-    cond (leb n 16) (front n ts (give m r key (take n ts) i)) (leaves (giveNone m r key) ts)
+unfoldable pub giveAll : Shape → ℕ → List Task → ℕ → ℕ → Leaves (List Task)
+giveAll sh key ts n i =
+    cond (leb n 16) (front n ts (give sh key (take n ts) i)) (leaves (giveNone sh key) ts)
 
-unfoldable pub stepAll : ℕ → ℕ → List ℕ → List Task → ℕ → ℕ → Leaves Lent
-stepAll m r bytes ts n i =
-    cond (leb n 16) (frontBeside n ts (step m r bytes (take n ts) i)) (still (stepNone m r (length bytes)) bytes ts)
+unfoldable pub stepAll : Shape → List ℕ → List Task → ℕ → ℕ → Leaves Lent
+stepAll sh bytes ts n i =
+    cond (leb n 16) (frontBeside n ts (step sh bytes (take n ts) i)) (still (stepNone sh (length bytes)) bytes ts)
 
-module _ (m r key : ℕ) (ts : List Task) (n i : ℕ) where
-  pub give-few : n ≤ 16 → (a : Answer) (us : List Task) → leaves a us ≡ give m r key (take n ts) i
-      → leaves a (us ++ drop n ts) ≡ giveAll m r key ts n i
+module _ (sh : Shape) (key : ℕ) (ts : List Task) (n i : ℕ) where
+  pub give-few : n ≤ 16 → (a : Answer) (us : List Task) → leaves a us ≡ give sh key (take n ts) i
+      → leaves a (us ++ drop n ts) ≡ giveAll sh key ts n i
   unfolding giveAll
   give-few few a us e = rw (le-leb n 16 few) (ap (front n ts) e)
 
-  pub give-many : 16 < n → (a : Answer) → a ≡ giveNone m r key → leaves a ts ≡ giveAll m r key ts n i
+  pub give-many : 16 < n → (a : Answer) → a ≡ giveNone sh key → leaves a ts ≡ giveAll sh key ts n i
   unfolding giveAll
   give-many many a e = rw (lt-leb n 16 many) (ap (λ (z : Answer). leaves z ts) e)
 
-module _ (m r : ℕ) (bytes : List ℕ) (ts : List Task) (n i : ℕ) where
+module _ (sh : Shape) (bytes : List ℕ) (ts : List Task) (n i : ℕ) where
   pub step-few : n ≤ 16 → (a : Answer) (after : List ℕ) (us : List Task) → still a after us
-      ≡ step m r bytes (take n ts) i
-      → still a after (us ++ drop n ts) ≡ stepAll m r bytes ts n i
+      ≡ step sh bytes (take n ts) i
+      → still a after (us ++ drop n ts) ≡ stepAll sh bytes ts n i
   unfolding stepAll
   step-few few a after us e = rw (le-leb n 16 few) (ap (frontBeside n ts) e)
 
-  pub step-many : 16 < n → (a : Answer) → a ≡ stepNone m r (length bytes) → still a bytes ts ≡ stepAll m r bytes ts n i
+  pub step-many : 16 < n → (a : Answer) → a ≡ stepNone sh (length bytes) → still a bytes ts ≡ stepAll sh bytes ts n i
   unfolding stepAll
   step-many many a e = rw (lt-leb n 16 many) (ap (λ (z : Answer). still z bytes ts) e)

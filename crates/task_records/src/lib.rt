@@ -11,10 +11,11 @@ use table_words::shape::shape_of;
 use task_step::give::give as give_one;
 use task_step::step::step as step_one;
 ghost use mathlib.Core.Path.{_≡_};
+ghost use Rattle.rules.specs.Shape.{shapeOf};
 ghost use Rattle.rules.specs.Answer.{doneSays, leaves};
 ghost use Rattle.rules.specs.Give as giving;
 ghost use Rattle.rules.specs.Step as stepping;
-ghost use Rattle.task_step.specs.Given.{turnSays};
+ghost use Rattle.rules.specs.Answer.{turnSays};
 ghost use Rattle.task_records.specs.Calls.{giveNone, giveAt, stepNone, stepAt, giveAll, stepAll};
 
 // A record as a call leaves it, beside its answer.
@@ -41,7 +42,7 @@ fn turned(t: Task, x: Turn) -> After
 
 // Where no record has the task number: the refusals 1 and 2 come before 3.
 fn give_none(m: u32, r: u32, key: u32) -> Done
-    ensures { λ d. ⌜ doneSays d ≡ giveNone m r key ⌝ }
+    ensures { λ d. ⌜ doneSays d ≡ giveNone (shapeOf m r) key ⌝ }
 {
     if good_shape(m, r) {
         if good_key(shape_of(m, r), key) {
@@ -56,7 +57,7 @@ fn give_none(m: u32, r: u32, key: u32) -> Done
 
 // One of n records has it.
 fn give_at(m: u32, r: u32, key: u32, n: usize, t: Task) -> After
-    ensures { λ a. ⌜ leaves (doneSays (a .done)) (a .task) ≡ giveAt m r key n t ⌝ }
+    ensures { λ a. ⌜ leaves (doneSays (a .done)) (a .task) ≡ giveAt (shapeOf m r) key n t ⌝ }
 {
     if n <= 16 {
         turned(t, give_one(m, r, key, t))
@@ -70,7 +71,7 @@ fn give_at(m: u32, r: u32, key: u32, n: usize, t: Task) -> After
 
 // Gives a key to a task (01, Tasks and their steps). The slice is walked by hand.
 pub fn give(m: u32, r: u32, key: u32, tasks: &mut [Task], i: usize) -> Done
-    ensures { λ d. ⌜ leaves (doneSays d) (now (tasks .exit)) ≡ giving.give m r key (now (tasks .entry)) i ⌝ }
+    ensures { λ d. ⌜ leaves (doneSays d) (now (tasks .exit)) ≡ giving.give (shapeOf m r) key (now (tasks .entry)) i ⌝ }
 {
     let n = tasks.len();
     if i < n {
@@ -83,7 +84,7 @@ pub fn give(m: u32, r: u32, key: u32, tasks: &mut [Task], i: usize) -> Done
 
 // Where no record has the task number: refusal 1 comes before 3.
 fn step_none(m: u32, r: u32, len: usize) -> Done
-    ensures { λ d. ⌜ doneSays d ≡ stepNone m r len ⌝ }
+    ensures { λ d. ⌜ doneSays d ≡ stepNone (shapeOf m r) len ⌝ }
 {
     if good_table(m, r, len) {
         Done::Refused(Refusal::BadTask)
@@ -95,7 +96,7 @@ fn step_none(m: u32, r: u32, len: usize) -> Done
 // One of n records has it.
 fn step_at(m: u32, r: u32, table: &mut [u8], n: usize, t: Task) -> After
     ensures { λ a. ⌜ leaves (doneSays (a .done)) (record { table = now (table .exit); task = a .task })
-        ≡ stepAt m r (now (table .entry)) n t ⌝ }
+        ≡ stepAt (shapeOf m r) (now (table .entry)) n t ⌝ }
 {
     if n <= 16 {
         return turned(t, step_one(m, r, table, t));
@@ -111,7 +112,7 @@ fn step_at(m: u32, r: u32, table: &mut [u8], n: usize, t: Task) -> After
 // One step of a task (01, Tasks and their steps). The slice of records is walked by hand.
 pub fn step(m: u32, r: u32, table: &mut [u8], tasks: &mut [Task], i: usize) -> Done
     ensures { λ d. ⌜ leaves (doneSays d) (record { table = now (table .exit); tasks = now (tasks .exit) })
-        ≡ stepping.step m r (now (table .entry)) (now (tasks .entry)) i ⌝ }
+        ≡ stepping.step (shapeOf m r) (now (table .entry)) (now (tasks .entry)) i ⌝ }
 {
     let n = tasks.len();
     if i < n {
@@ -130,7 +131,7 @@ pub struct Kept {
 
 // Give on the first n of them, which are lent for the call. A caller of it has no slice of records.
 pub fn give_all(m: u32, r: u32, key: u32, tasks: [Task; 16], n: usize, i: usize) -> Kept
-    ensures { λ x. ⌜ leaves (doneSays (x .done)) (x .tasks) ≡ giveAll m r key tasks n i ⌝ }
+    ensures { λ x. ⌜ leaves (doneSays (x .done)) (x .tasks) ≡ giveAll (shapeOf m r) key tasks n i ⌝ }
 {
     if n <= 16 {
         let mut lent = tasks;
@@ -150,7 +151,7 @@ pub fn give_all(m: u32, r: u32, key: u32, tasks: [Task; 16], n: usize, i: usize)
 // Step likewise.
 pub fn step_all(m: u32, r: u32, table: &mut [u8], tasks: [Task; 16], n: usize, i: usize) -> Kept
     ensures { λ x. ⌜ leaves (doneSays (x .done)) (record { table = now (table .exit); tasks = x .tasks })
-        ≡ stepAll m r (now (table .entry)) tasks n i ⌝ }
+        ≡ stepAll (shapeOf m r) (now (table .entry)) tasks n i ⌝ }
 {
     if n <= 16 {
         let mut lent = tasks;

@@ -7,30 +7,32 @@ use mathlib.Core.Bool.{Bool, true, false, cond}
 use mathlib.Core.List.{List}
 use lib.Seq.{set-getD}
 use lib.Dec.{ltb}
+use Rattle.rules.specs.declared.Shape.{Shape}
 use Rattle.rules.specs.declared.Task.{Task}
 use Rattle.rules.specs.declared.Turn.{Turn}
 use Rattle.rules.specs.declared.Turn.the-variants.{Next, Refused}
-use Rattle.rules.specs.Shape.{shapeOf, inRange, keys}
+use Rattle.rules.specs.Shape.{inRange, keys}
 use Rattle.rules.specs.Answer.{says, refuses, numberOfRefusal, Leaves, leaves}
-use Rattle.rules.specs.Give.{noTask, taskAt, goodTask, giveTo, storedAt, give}
+use Rattle.rules.specs.Give.{giveTo, storedAt, give}
+use Rattle.rules.specs.Record.{noTask, taskAt, goodTask}
 
 -- a turn says 0 and the record that follows, or a refusal's number and the record as it was
 abbrev pub turnSays : Task → Turn → Leaves Task
 turnSays t (Next u) = leaves (says 0) u
 turnSays t (Refused n) = leaves (refuses (numberOfRefusal n)) t
 
--- give (m, r, key, the record)
-unfoldable pub giveOne : ℕ → ℕ → ℕ → Task → Leaves Task
-giveOne m r key t =
-    cond (inRange (shapeOf m r))
-    (cond (ltb key (keys (shapeOf m r))) (giveTo t key) (leaves (refuses 2) t))
+-- give (the shape, key, the record)
+unfoldable pub giveOne : Shape → ℕ → Task → Leaves Task
+giveOne sh key t =
+    cond (inRange sh)
+    (cond (ltb key (keys sh)) (giveTo t key) (leaves (refuses 2) t))
     (leaves (refuses 1) t)
 
 pub give-one :
-    (m r key : ℕ) (ts : List Task) (i : ℕ) →
-    goodTask ts i ≡ true → give m r key ts i ≡ storedAt ts i (giveOne m r key (taskAt ts i))
+    (sh : Shape) (key : ℕ) (ts : List Task) (i : ℕ) →
+    goodTask ts i ≡ true → give sh key ts i ≡ storedAt ts i (giveOne sh key (taskAt ts i))
 unfolding give giveOne
-give-one m r key ts i good = rw good (go (inRange (shapeOf m r)) (ltb key (keys (shapeOf m r))))
+give-one sh key ts i good = rw good (go (inRange sh) (ltb key (keys sh)))
   where
     go : (shape small : Bool) →
         cond shape

@@ -14,9 +14,9 @@ use Rattle.rules.specs.declared.Turn.{Turn}
 use Rattle.rules.specs.declared.Turn.the-variants.{Next, Refused}
 use Rattle.rules.specs.declared.Refusal.the-variants.{Unsound}
 use Rattle.rules.specs.Bytes.{wordsOf, bytesOf}
-use Rattle.rules.specs.Shape.{shapeOf, places, goodTable}
+use Rattle.rules.specs.Shape.{places, goodTable}
 use Rattle.rules.specs.Answer.{Answer, says, refuses, numberOfRefusal, Leaves, leaves}
-use Rattle.rules.specs.Give.{noTask, taskAt, goodTask}
+use Rattle.rules.specs.Record.{noTask, taskAt, goodTask}
 use Rattle.rules.specs.Phase.{Step, to, unsound}
 use Rattle.rules.specs.Step.{Stepped, steps, refused, orUnsound, ofPhase, stepOf, Lent, lentAfter, step}
 use Rattle.table_words.specs.Layout.{bytes-are, same-bytes}
@@ -36,11 +36,11 @@ abbrev pub leftAfter : List ℕ → Task → Stepped → Leaves Left
 leftAfter bytes t (steps u ws) = leaves (says 0) (record { table = bytesOf ws; task = u })
 leftAfter bytes t (refused n) = leaves (refuses n) (record { table = bytes; task = t })
 
--- step (m, r, the lent table, the record)
-unfoldable pub stepOne : ℕ → ℕ → List ℕ → Task → Leaves Left
-stepOne m r bytes t =
-    cond (goodTable (shapeOf m r) (length bytes))
-    (leftAfter bytes t (stepOf (shapeOf m r) (wordsOf bytes) t))
+-- step (the shape, the lent table, the record)
+unfoldable pub stepOne : Shape → List ℕ → Task → Leaves Left
+stepOne sh bytes t =
+    cond (goodTable sh (length bytes))
+    (leftAfter bytes t (stepOf sh (wordsOf bytes) t))
     (leaves (refuses 1) (record { table = bytes; task = t }))
 
 -- what a step on one record leaves, with the record stored back
@@ -48,12 +48,12 @@ abbrev pub lentOf : List Task → ℕ → Leaves Left → Leaves Lent
 lentOf ts i (leaves a l) = leaves a (record { table = l .table; tasks = set ts i (l .task) })
 
 pub step-one :
-    (m r : ℕ) (bytes : List ℕ) (ts : List Task) (i : ℕ) →
-    goodTask ts i ≡ true → step m r bytes ts i ≡ lentOf ts i (stepOne m r bytes (taskAt ts i))
+    (sh : Shape) (bytes : List ℕ) (ts : List Task) (i : ℕ) →
+    goodTask ts i ≡ true → step sh bytes ts i ≡ lentOf ts i (stepOne sh bytes (taskAt ts i))
 unfolding step stepOne
-step-one m r bytes ts i good =
+step-one sh bytes ts i good =
     rw good
-    (go (goodTable (shapeOf m r) (length bytes)) (stepOf (shapeOf m r) (wordsOf bytes) (taskAt ts i)))
+    (go (goodTable sh (length bytes)) (stepOf sh (wordsOf bytes) (taskAt ts i)))
   where
     -- a record that stays as it was is stored back as it was
     kept : (a : Answer) →

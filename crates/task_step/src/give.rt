@@ -6,9 +6,11 @@ use table_words::key::good_key;
 use table_words::shape::good_shape;
 use table_words::shape::shape_of;
 ghost use mathlib.Core.Path.{_≡_};
+ghost use Rattle.rules.specs.Shape.{shapeOf};
 ghost use Rattle.rules.specs.Give as spec;
 ghost use Rattle.rules.specs.Give.{giveTo};
-ghost use Rattle.task_step.specs.Given.{turnSays, giveOne};
+ghost use Rattle.task_step.specs.Given.{giveOne};
+ghost use Rattle.rules.specs.Answer.{turnSays};
 
 fn given(key: u32) -> Task
     ensures { λ t. ⌜ t ≡ spec.given key ⌝ }
@@ -36,7 +38,7 @@ fn give_to(t: Task, key: u32) -> Turn
 }
 
 pub fn give(m: u32, r: u32, key: u32, t: Task) -> Turn
-    ensures { λ turn. ⌜ turnSays t turn ≡ giveOne m r key t ⌝ }
+    ensures { λ turn. ⌜ turnSays t turn ≡ giveOne (shapeOf m r) key t ⌝ }
 {
     if good_shape(m, r) {
         if good_key(shape_of(m, r), key) {

@@ -14,7 +14,7 @@ ghost use mathlib.Core.Bool.{true, false};
 ghost use Prim.Native.Nat.{_*_};
 ghost use lib.ListN.{length};
 ghost use Rattle.rules.specs.Bytes.{wordsOf};
-ghost use Rattle.rules.specs.Shape.{places};
+ghost use Rattle.rules.specs.Shape.{shapeOf, places};
 ghost use Rattle.rules.specs.Record.{atRest, fits as fit};
 ghost use Rattle.rules.specs.Step.{ofPhase, stepOf};
 ghost use Rattle.table_words.specs.Range.{InRange};
@@ -65,7 +65,7 @@ fn step_of(sh: Shape, table: &mut [u8], t: Task) -> Turn
 }
 
 pub fn step(m: u32, r: u32, table: &mut [u8], t: Task) -> Turn
-    ensures { λ turn. ⌜ stepSays t turn (now (table .exit)) ≡ stepOne m r (now (table .entry)) t ⌝ }
+    ensures { λ turn. ⌜ stepSays t turn (now (table .exit)) ≡ stepOne (shapeOf m r) (now (table .entry)) t ⌝ }
 {
     if good_table(m, r, table.len()) {
         step_of(shape_of(m, r), table, t)

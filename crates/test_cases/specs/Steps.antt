@@ -14,7 +14,8 @@ use Rattle.rules.specs.Word.{isZero, isLock}
 use Rattle.rules.specs.Answer.{Answer, Leaves, leaves}
 use Rattle.rules.specs.Put.{put}
 use Rattle.rules.specs.Record.{homePlaceOf, busy, atRest, fitsHand, fitsBusy, fits}
-use Rattle.rules.specs.Give.{given, noTask, taskAt, goodTask, giveTo, give}
+use Rattle.rules.specs.Give.{given, giveTo, give}
+use Rattle.rules.specs.Record.{noTask, taskAt, goodTask}
 use Rattle.rules.specs.Phase as phase
 use Rattle.rules.specs.Step.{ofPhase, stepOf, Lent, step}
 
@@ -41,7 +42,7 @@ phaseIn l = taskAt (l .tasks) 0 .phase
 abbrev stepsOn : Shape → ℕ → Lent → Lent
 stepsOn sh zero l = l
 stepsOn sh (suc n) l =
-    cond (eqb (phaseIn l) 13) l (stepsOn sh n (lentBy (step (sh .m) (sh .r) (l .table) (l .tasks) 0)))
+    cond (eqb (phaseIn l) 13) l (stepsOn sh n (lentBy (step sh (l .table) (l .tasks) 0)))
 
 -- put's found, inserted and full as a task answers them
 abbrev taskAnswer : Answer → ℕ
@@ -58,8 +59,8 @@ endsAsPut sh n ns =
     every
     (λ (key : ℕ).
     sameEnd
-    (put (sh .m) (sh .r) (inBytes ns) key)
-    (stepsOn sh n (begun (inBytes ns) (give (sh .m) (sh .r) key (noTask ∷ []) 0))))
+    (put sh (inBytes ns) key)
+    (stepsOn sh n (begun (inBytes ns) (give sh key (noTask ∷ []) 0))))
     (allKeys sh)
 
 pub lone-task-small : every (endsAsPut small 14) (those (isOpen small) smallWords) ≡ true

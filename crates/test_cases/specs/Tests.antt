@@ -27,7 +27,8 @@ use Rattle.rules.specs.Answer.{Answer, says, refuses, Leaves, leaves}
 use Rattle.rules.specs.Find.{around, soundAround, lockedAround, findIn, find}
 use Rattle.rules.specs.Put.{layRun, enlargedFrom, addAt, putIn, put}
 use Rattle.rules.specs.Build.{zeros, puts, tooMany, buildIn, build}
-use Rattle.rules.specs.Listing.{atFront, listIn, listing}
+use Rattle.rules.specs.Listing.{listIn, listing}
+use Rattle.rules.specs.Lists.{atFront}
 use Rattle.rules.specs.Fill.{figure, fill}
 
 -- all that is shut, opened at once
@@ -145,7 +146,7 @@ sound-by-hand = refl
 abbrev listAsByHand : Small → Bool
 listAsByHand t =
     every
-    (λ (slots : List ℕ). same (listing 1 1 (inBytes (wordsIn t)) slots) (listByHand t slots))
+    (λ (slots : List ℕ). same (listing small (inBytes (wordsIn t)) slots) (listByHand t slots))
     ([] ∷ (9 ∷ []) ∷ (9 ∷ 8 ∷ []) ∷ (9 ∷ 8 ∷ 7 ∷ []) ∷ [])
 
 pub list-by-hand : every listAsByHand smallTables ≡ true
@@ -155,7 +156,7 @@ list-by-hand = refl
 abbrev findAsByHand : Small → Bool
 findAsByHand t =
     every
-    (λ (key : ℕ). sameAnswer (find 1 1 (inBytes (wordsIn t)) key) (findByHand t key))
+    (λ (key : ℕ). sameAnswer (find small (inBytes (wordsIn t)) key) (findByHand t key))
     (allKeys small)
 
 pub find-by-hand : every findAsByHand smallTables ≡ true
@@ -164,14 +165,14 @@ find-by-hand = refl
 
 abbrev putAsByHand : Small → Bool
 putAsByHand t =
-    every (λ (key : ℕ). same (put 1 1 (inBytes (wordsIn t)) key) (putByHand t key)) (allKeys small)
+    every (λ (key : ℕ). same (put small (inBytes (wordsIn t)) key) (putByHand t key)) (allKeys small)
 
 pub put-by-hand : every putAsByHand smallTables ≡ true
 unfolding opened
 put-by-hand = refl
 
 abbrev fillAsByHand : Small → Bool
-fillAsByHand t = sameAnswer (fill 1 1 (inBytes (wordsIn t))) (fillByHand t)
+fillAsByHand t = sameAnswer (fill small (inBytes (wordsIn t))) (fillByHand t)
 
 pub fill-by-hand : every fillAsByHand smallTables ≡ true
 unfolding opened
@@ -220,7 +221,7 @@ no-other-small = refl
 abbrev findsListed : Shape → List ℕ → Bool
 findsListed sh ns =
     every
-    (λ (key : ℕ). sameAnswer (find (sh .m) (sh .r) (inBytes ns) key) (says (bitOf (among key (listOf sh ns)))))
+    (λ (key : ℕ). sameAnswer (find sh (inBytes ns) key) (says (bitOf (among key (listOf sh ns)))))
     (allKeys sh)
 
 pub find-small : every (findsListed small) (those (isOpen small) smallWords) ≡ true
@@ -258,7 +259,7 @@ putAsDemanded sh ns key result =
 
 abbrev putsAsDemanded : Shape → List ℕ → Bool
 putsAsDemanded sh ns =
-    every (λ (key : ℕ). putAsDemanded sh ns key (put (sh .m) (sh .r) (inBytes ns) key)) (allKeys sh)
+    every (λ (key : ℕ). putAsDemanded sh ns key (put sh (inBytes ns) key)) (allKeys sh)
 
 pub put-small : every (putsAsDemanded small) (those (isOpen small) smallWords) ≡ true
 unfolding opened
@@ -267,7 +268,7 @@ put-small = refl
 -- ---- two puts in either order, where the table's keys and the two are at most 2^m
 
 abbrev after : Shape → List ℕ → ℕ → List ℕ
-after sh bytes key = left (put (sh .m) (sh .r) bytes key)
+after sh bytes key = left (put sh bytes key)
 
 abbrev eitherOrder : Shape → List ℕ → ℕ → ℕ → Bool
 eitherOrder sh ns j k =
@@ -288,12 +289,12 @@ abbrev size : Shape → ℕ
 size sh = 2 * (2 ^ sh .m + 2)
 
 abbrev buildOver : Shape → List ℕ → Leaves (List ℕ)
-buildOver sh ks = build (sh .m) (sh .r) (replicate (size sh) 0xFF) ks
+buildOver sh ks = build sh (replicate (size sh) 0xFF) ks
 
 abbrev listsAndBuilds : Shape → List ℕ → Leaves (List ℕ) → Bool
 listsAndBuilds sh ds (leaves a bytes) =
     sameAnswer a (says 0)
-    && same (listing (sh .m) (sh .r) bytes (replicate (length ds) 0)) (leaves (says (length ds)) ds)
+    && same (listing sh bytes (replicate (length ds) 0)) (leaves (says (length ds)) ds)
     && same (buildOver sh ds) (leaves (says 0) bytes)
 
 abbrev buildsAgain : Shape → List ℕ → Bool
@@ -323,18 +324,18 @@ badlyLent =
     ∷ lent 1 1 10 ∷ lent 2 1 8 ∷ []
 
 -- every call, with a key in range and with one that is not: 1 goes before 2, and before 6 on a table full of ones
-abbrev refuses1 : ℕ → ℕ → List ℕ → ℕ → Bool
-refuses1 m r bytes key =
-    sameAnswer (find m r bytes key) (refuses 1)
-    && same (put m r bytes key) (leaves (refuses 1) bytes)
-    && same (build m r bytes (key ∷ [])) (leaves (refuses 1) bytes)
-    && same (listing m r bytes (9 ∷ [])) (leaves (refuses 1) (9 ∷ []))
-    && sameAnswer (fill m r bytes) (refuses 1)
+abbrev refuses1 : Shape → List ℕ → ℕ → Bool
+refuses1 sh bytes key =
+    sameAnswer (find sh bytes key) (refuses 1)
+    && same (put sh bytes key) (leaves (refuses 1) bytes)
+    && same (build sh bytes (key ∷ [])) (leaves (refuses 1) bytes)
+    && same (listing sh bytes (9 ∷ [])) (leaves (refuses 1) (9 ∷ []))
+    && sameAnswer (fill sh bytes) (refuses 1)
 
 abbrev refusesBadlyLent : Call → Bool
 refusesBadlyLent l =
     every
-    (refuses1 (l .shape .m) (l .shape .r) (replicate (l .size) 0xFF))
+    (refuses1 (l .shape) (replicate (l .size) 0xFF))
     (0 ∷ 2 ^ (l .shape .m + l .shape .r) ∷ [])
 
 pub refuses-1 : every refusesBadlyLent badlyLent ≡ true
@@ -357,10 +358,10 @@ abbrev refuses2 : Small → Bool
 refuses2 t =
     every
     (λ (key : ℕ).
-    sameAnswer (find 1 1 (inBytes (wordsIn t)) key) (refuses 2)
-    && same (put 1 1 (inBytes (wordsIn t)) key) (leaves (refuses 2) (inBytes (wordsIn t)))
-    && same (build 1 1 (inBytes (wordsIn t)) (key ∷ 0 ∷ [])) (leaves (refuses 2) (inBytes (wordsIn t)))
-    && same (build 1 1 (inBytes (wordsIn t)) (0 ∷ key ∷ [])) (leaves (refuses 2) (inBytes (wordsIn t))))
+    sameAnswer (find small (inBytes (wordsIn t)) key) (refuses 2)
+    && same (put small (inBytes (wordsIn t)) key) (leaves (refuses 2) (inBytes (wordsIn t)))
+    && same (build small (inBytes (wordsIn t)) (key ∷ 0 ∷ [])) (leaves (refuses 2) (inBytes (wordsIn t)))
+    && same (build small (inBytes (wordsIn t)) (0 ∷ key ∷ [])) (leaves (refuses 2) (inBytes (wordsIn t))))
     (4 ∷ 8 ∷ [])
 
 pub refuses-2 : every refuses2 smallTables ≡ true

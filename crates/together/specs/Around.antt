@@ -17,7 +17,7 @@ use Rattle.rules.specs.Table.{entriesBetween}
 use Rattle.rules.specs.Table.{clusterEntries}
 use Rattle.rules.specs.Lay.{holds}
 use Rattle.rules.specs.Record.{homePlaceOf}
-use Rattle.rules.specs.Give.{taskAt}
+use Rattle.rules.specs.Record.{taskAt}
 use Rattle.table_words.specs.Split.{split-in-shape}
 use Rattle.theory.specs.Run.{unlock}
 use Rattle.theory.specs.Dealt.{isOccupied}

@@ -23,7 +23,7 @@ use Rattle.rules.specs.Room.{place, full, roomFor}
 use Rattle.rules.specs.Lay.{holds, insert}
 use Rattle.rules.specs.Put.{addAt, enlargedFrom, Outcome, keeps, putIn, wordsAfter}
 use Rattle.rules.specs.Record.{homePlaceOf, toPhase, withLeft, withAnswer}
-use Rattle.rules.specs.Give.{taskAt}
+use Rattle.rules.specs.Record.{taskAt}
 use Rattle.rules.specs.Phase as phase
 use Rattle.rules.specs.Phase.{to, unsound, aloneWord, smaller, markOf, movesOn}
 use Rattle.table_words.specs.Split.{split-in-shape}

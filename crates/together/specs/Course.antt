@@ -14,7 +14,7 @@ use Rattle.rules.specs.Shape.{remainders, keys}
 use Rattle.rules.specs.Entry.{Entry}
 use Rattle.rules.specs.Table.{at}
 use Rattle.rules.specs.Record.{homePlaceOf}
-use Rattle.rules.specs.Give.{taskAt}
+use Rattle.rules.specs.Record.{taskAt}
 use Rattle.together.specs.Invariant.{Looked, LookedLeft, Inv, InPhase, at-rest, at-home, looks-left, looks-right}
 use Rattle.together.specs.Invariant.{owns-left}
 use Rattle.together.specs.Invariant.{owns-both, has-read, moving, marking, frees-left, frees-right}

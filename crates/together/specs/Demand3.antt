@@ -11,9 +11,10 @@ use native.Mathlib.Omega.{arith}
 use lib.ListN.{length}
 use lib.Dec.{leb}
 use borrow.Author.Tests.{le-leb, lt-leb}
+use Rattle.rules.specs.declared.Shape.{Shape}
 use Rattle.rules.specs.declared.Task.{Task}
 use Rattle.rules.specs.Lists.{bitOf}
-use Rattle.rules.specs.Shape.{shapeOf, homes, keys}
+use Rattle.rules.specs.Shape.{homes, keys}
 use Rattle.rules.specs.Step.{step}
 use Rattle.theory.specs.Every as every
 use Rattle.theory.specs.Every.{All}
@@ -30,26 +31,26 @@ unfoldable pub wasInserted : ℕ → List Said → Bool
 wasInserted key said = leb 1 (timesInserted key said)
 
 -- "One shape, a sound unlocked table, idle tasks, gives and steps in any order": a task may also be done
-module _ {m r : ℕ} {bytes : List ℕ} (t : PlainTable m r bytes) (ts : List Task) (few : length ts ≤ 16)
+module _ {sh : Shape} {bytes : List ℕ} (t : PlainTable sh bytes) (ts : List Task) (few : length ts ≤ 16)
     (idle : quiet ts ≡ true) (actions : List Action)
   where
     -- what they leave; since the actions are any list, this is every moment on the way
     abbrev pub after : World
-    after = course m r (begin bytes ts) actions
+    after = course sh (begin bytes ts) actions
 
-    fair : Fair m r bytes after
+    fair : Fair sh bytes after
     unfolding quiet
     fair = fair-course actions (fair-begin ts t few idle)
 
     -- the next step, of whatever task, is refused only by 3 (no such task) or 5 (idle or done)
-    pub step-refusals : (i : ℕ) → StepAnswer (after .tasks) i (answer-of (step m r (after .table) (after .tasks) i))
+    pub step-refusals : (i : ℕ) → StepAnswer (after .tasks) i (answer-of (step sh (after .table) (after .tasks) i))
     step-refusals i = step-answers i fair
 
     -- every answer is found, inserted or full; 4 is never given
     pub answers-known : All (λ (s : Said). (1 ≤ s .answer) × (s .answer ≤ 3)) (after .said)
     answers-known = every.all-map known (fair .meaning)
       where
-        known : (s : Said) → Means (shapeOf m r) (fair .shown) s → (1 ≤ s .answer) × (s .answer ≤ 3)
+        known : (s : Said) → Means sh (fair .shown) s → (1 ≤ s .answer) × (s .answer ≤ 3)
         known s (means-full e) = (omega arith, omega arith)
         known s (means-shown (inl e) h) = (omega arith, omega arith)
         known s (means-shown (inr e) h) = (omega arith, omega arith)
@@ -57,25 +58,25 @@ module _ {m r : ℕ} {bytes : List ℕ} (t : PlainTable m r bytes) (ts : List Ta
     -- "whenever every task is idle or done,"
     module _ (done : quiet (after .tasks) ≡ true) where
       -- the table is sound and without locks,
-      pub table-after : PlainTable m r (after .table)
+      pub table-after : PlainTable sh (after .table)
       unfolding quiet
       table-after = proof.rest-plain t fair done
 
       tally :
           (x : ℕ) →
-          bitOf (listed x (listOf m r bytes)) + timesInserted x (after .said)
-          ≡ bitOf (listed x (listOf m r (after .table)))
+          bitOf (listed x (listOf sh bytes)) + timesInserted x (after .said)
+          ≡ bitOf (listed x (listOf sh (after .table)))
       unfolding quiet
       tally = proof.rest-tally t fair done
 
       -- "the table lists the starting keys plus those answered inserted,"
       pub lists-after :
-          (x : ℕ) → listed x (listOf m r (after .table)) ≡ (listed x (listOf m r bytes) || wasInserted x (after .said))
+          (x : ℕ) → listed x (listOf sh (after .table)) ≡ (listed x (listOf sh bytes) || wasInserted x (after .said))
       unfolding wasInserted
       lists-after x =
           go
-          (listed x (listOf m r (after .table)))
-          (listed x (listOf m r bytes))
+          (listed x (listOf sh (after .table)))
+          (listed x (listOf sh bytes))
           (timesInserted x (after .said))
           (tally x)
         where
@@ -87,20 +88,20 @@ module _ {m r : ℕ} {bytes : List ℕ} (t : PlainTable m r bytes) (ts : List Ta
 
       -- "none so answered twice",
       pub inserted-once : (x : ℕ) → timesInserted x (after .said) ≤ 1
-      inserted-once x = go (listed x (listOf m r (after .table))) (tally x)
+      inserted-once x = go (listed x (listOf sh (after .table))) (tally x)
         where
           go :
-              (a : Bool) → bitOf (listed x (listOf m r bytes)) + timesInserted x (after .said) ≡ bitOf a →
+              (a : Bool) → bitOf (listed x (listOf sh bytes)) + timesInserted x (after .said) ≡ bitOf a →
               timesInserted x (after .said) ≤ 1
           go true e = omega arith
           go false e = omega arith
 
       -- and none that was there at the start
-      pub inserted-new : (x : ℕ) → listed x (listOf m r bytes) ≡ true → timesInserted x (after .said) ≡ 0
-      inserted-new x there = go (listed x (listOf m r (after .table))) (tally x)
+      pub inserted-new : (x : ℕ) → listed x (listOf sh bytes) ≡ true → timesInserted x (after .said) ≡ 0
+      inserted-new x there = go (listed x (listOf sh (after .table))) (tally x)
         where
           go :
-              (a : Bool) → bitOf (listed x (listOf m r bytes)) + timesInserted x (after .said) ≡ bitOf a →
+              (a : Bool) → bitOf (listed x (listOf sh bytes)) + timesInserted x (after .said) ≡ bitOf a →
               timesInserted x (after .said) ≡ 0
           go true e = omega (arith, ap bitOf there)
           go false e = omega arith
@@ -111,7 +112,7 @@ module _ {m r : ℕ} {bytes : List ℕ} (t : PlainTable m r bytes) (ts : List Ta
       answered = proof.rest-answers t fair done
 
       -- "If starting and accepted keys are no more distinct keys than places without guards,"
-      module _ (fits : distinct (shapeOf m r) (listOf m r bytes ++ after .given) ≤ homes (shapeOf m r)) where
+      module _ (fits : distinct sh (listOf sh bytes ++ after .given) ≤ homes sh) where
         -- "none is answered full,"
         pub none-full : All (λ (s : Said). s .answer ≢ 3) (after .said)
         unfolding quiet
@@ -120,7 +121,7 @@ module _ {m r : ℕ} {bytes : List ℕ} (t : PlainTable m r bytes) (ts : List Ta
         -- "each new key is answered inserted exactly once,"
         pub inserted-exactly-once :
             (x : ℕ) →
-            listed x (after .given) ≡ true → listed x (listOf m r bytes) ≡ false → timesInserted x (after .said) ≡ 1
+            listed x (after .given) ≡ true → listed x (listOf sh bytes) ≡ false → timesInserted x (after .said) ≡ 1
         unfolding quiet
         inserted-exactly-once x given new =
             omega (arith, tally x, ap bitOf new, ap bitOf (proof.rest-listed t fair done fits x given))
@@ -133,9 +134,9 @@ module _ {m r : ℕ} {bytes : List ℕ} (t : PlainTable m r bytes) (ts : List Ta
         -- "and the bytes are those of putting the new keys one by one in any order." (with any repeats)
         pub bytes-after :
             (ks : List ℕ) →
-            InKeys (shapeOf m r) ks →
+            InKeys sh ks →
             ((x : ℕ) →
-            x < keys (shapeOf m r) → listed x ks ≡ (listed x (after .given) && not (listed x (listOf m r bytes)))) →
-            putAll m r bytes ks ≡ after .table
+            x < keys sh → listed x ks ≡ (listed x (after .given) && not (listed x (listOf sh bytes)))) →
+            putAll sh bytes ks ≡ after .table
         unfolding quiet
         bytes-after ks h new = proof.rest-bytes t fair done fits ks h new

@@ -18,7 +18,7 @@ use Rattle.rules.specs.Entry.{Entry}
 use Rattle.rules.specs.Table.{at, occupiedPlaces, guardsVoid}
 use Rattle.rules.specs.Lay.{lay}
 use Rattle.rules.specs.Record.{homePlaceOf, within, implies, busy, atRest, fitsHand, fitsBusy, fits}
-use Rattle.rules.specs.Give.{taskAt}
+use Rattle.rules.specs.Record.{taskAt}
 use Rattle.theory.specs.Run.{unlock}
 use Rattle.theory.specs.Dealt.{and-both, or-left, or-right, and-left, and-right}
 use Rattle.theory.specs.Gaps as gaps

@@ -17,14 +17,15 @@ use Rattle.rules.specs.declared.Task.{Task}
 use Rattle.rules.specs.Lists.{bitOf, count, all, any}
 use Rattle.rules.specs.Word.{Word}
 use Rattle.rules.specs.Bytes.{wordsOf, bytesOf}
-use Rattle.rules.specs.Shape.{shapeOf, inRange, remainders, keys, places, goodTable, fitsLength}
+use Rattle.rules.specs.Shape.{inRange, remainders, keys, places, goodTable, fitsLength}
 use Rattle.rules.specs.Entry.{Entry, split, sameEntry}
 use Rattle.rules.specs.Table.{at, occupiedPlaces, entries, locked}
 use Rattle.rules.specs.Lay.{holds, insert}
 use Rattle.rules.specs.Build.{puts}
 use Rattle.rules.specs.Answer.{Answer, says, refuses, Leaves, leaves}
 use Rattle.rules.specs.Record.{busy, atRest, fitsBusy, fits}
-use Rattle.rules.specs.Give.{given, noTask, taskAt, goodTask, giveTo, give}
+use Rattle.rules.specs.Give.{given, giveTo, give}
+use Rattle.rules.specs.Record.{noTask, taskAt, goodTask}
 use Rattle.rules.specs.Step.{Lent, refused, stepOf, lentAfter, step}
 use Rattle.table_words.specs.Range.{good-table, remainders-high}
 use Rattle.table_words.specs.Layout.{bytes-length, words-of-bytes, remainders-small}
@@ -63,36 +64,36 @@ pub data Means (sh : Shape) (shown : List Entry) (s : Said) : Type 0 where
   means-shown : (s .answer ≡ 1) ⊎ (s .answer ≡ 2) → holds (split sh (s .key)) shown ≡ true → Means sh shown s
 
 -- room, for the starting keys and those given, in a table of the shape
-pub record Spacious (m r : ℕ) (start given : List ℕ) (us : List Entry) : Type 0 where
-  pub room : Roomy (shapeOf m r) us
+pub record Spacious (sh : Shape) (start given : List ℕ) (us : List Entry) : Type 0 where
+  pub room : Roomy sh us
   pub starts : Inside (entries (wordsOf start)) us
-  pub gives : Inside (entriesOf (shapeOf m r) given) us
+  pub gives : Inside (entriesOf sh given) us
 
 -- no answer full, said or about to be
 pub record NoneFull (ts : List Task) (said : List Said) : Type 0 where
   pub of-busy : (i : ℕ) → i < length ts → 1 ≤ taskAt ts i .phase → taskAt ts i .phase ≤ 12 → taskAt ts i .answer ≢ 3
   pub of-said : All (λ (s : Said). s .answer ≢ 3) said
 
-pub record Fair (m r : ℕ) (start : List ℕ) (w : World) : Type 0 where
-  pub good : goodTable (shapeOf m r) (length (w .table)) ≡ true
+pub record Fair (sh : Shape) (start : List ℕ) (w : World) : Type 0 where
+  pub good : goodTable sh (length (w .table)) ≡ true
   pub small : (i : ℕ) → getD (w .table) i 0 < 256
   pub few : length (w .tasks) ≤ 16
   pub laid : List Word
   pub shown : List Entry
-  pub inv : Inv (shapeOf m r) (wordsOf (w .table)) (w .tasks) laid shown
+  pub inv : Inv sh (wordsOf (w .table)) (w .tasks) laid shown
   -- the keys put so far, in order: the table laid is the starting one with these put, and shows no others beside the
   -- starting ones
   pub put : List Entry
-  pub chain : laid ≡ puts (shapeOf m r) (wordsOf start) put
+  pub chain : laid ≡ puts sh (wordsOf start) put
   pub shown-is : (x : Entry) → holds x shown ≡ (holds x (entries (wordsOf start)) || holds x put)
   pub put-new : (x : Entry) → holds x put ≡ true → holds x (entries (wordsOf start)) ≡ false
-  pub put-given : (x : Entry) → holds x put ≡ true → holds x (entriesOf (shapeOf m r) (w .given)) ≡ true
+  pub put-given : (x : Entry) → holds x put ≡ true → holds x (entriesOf sh (w .given)) ≡ true
   -- a key is shown once: as a starting key, as an inserted one, or as one that a task has put and not yet said
   pub tally :
       (key : ℕ) →
-      bitOf (holds (split (shapeOf m r) key) (entries (wordsOf start))) + timesInserted key (w .said)
+      bitOf (holds (split sh key) (entries (wordsOf start))) + timesInserted key (w .said)
       + timesLoaded key (w .tasks)
-      ≡ bitOf (holds (split (shapeOf m r) key) shown)
+      ≡ bitOf (holds (split sh key) shown)
   -- each accepted give is answered, or its task is busy
   pub answers : (key : ℕ) → timesGiven key (w .given) ≡ timesSaid key (w .said) + timesBusy key (w .tasks)
   pub task-given :
@@ -100,9 +101,9 @@ pub record Fair (m r : ℕ) (start : List ℕ) (w : World) : Type 0 where
       i < length (w .tasks) →
       1 ≤ taskAt (w .tasks) i .phase → taskAt (w .tasks) i .phase ≤ 12 →
       listed (taskAt (w .tasks) i .key) (w .given) ≡ true
-  pub in-keys : InKeys (shapeOf m r) (w .given)
-  pub meaning : All (Means (shapeOf m r) shown) (w .said)
-  pub none-full : (us : List Entry) → Spacious m r start (w .given) us → NoneFull (w .tasks) (w .said)
+  pub in-keys : InKeys sh (w .given)
+  pub meaning : All (Means sh shown) (w .said)
+  pub none-full : (us : List Entry) → Spacious sh start (w .given) us → NoneFull (w .tasks) (w .said)
 
 -- ---- the beginning
 unlocked-at : (ws : List Word) (p : ℕ) → locked ws ≡ false → at ws p .lock ≡ false
@@ -156,10 +157,10 @@ inv-begin {sh} {ws} ts s small rest =
     }
 
 pub fair-begin :
-    {m r : ℕ} {bytes : List ℕ} (ts : List Task) →
-    PlainTable m r bytes → length ts ≤ 16 → all atRest ts ≡ true → Fair m r bytes (begin bytes ts)
+    {sh : Shape} {bytes : List ℕ} (ts : List Task) →
+    PlainTable sh bytes → length ts ≤ 16 → all atRest ts ≡ true → Fair sh bytes (begin bytes ts)
 unfolding puts timesInserted timesSaid timesGiven count all holds any
-fair-begin {m} {r} {bytes} ts t few rest =
+fair-begin {sh} {bytes} ts t few rest =
     record {
       good = t .whole .good;
       small = t .whole .small;
@@ -246,12 +247,12 @@ given-world w i key =
     }
 
 fair-given :
-    {m r : ℕ} {start : List ℕ} {w : World} (i key : ℕ) →
-    Fair m r start w →
+    {sh : Shape} {start : List ℕ} {w : World} (i key : ℕ) →
+    Fair sh start w →
     i < length (w .tasks) →
-    key < keys (shapeOf m r) → busy (taskAt (w .tasks) i) ≡ false → Fair m r start (given-world w i key)
+    key < keys sh → busy (taskAt (w .tasks) i) ≡ false → Fair sh start (given-world w i key)
 unfolding given-world given timesGiven count all holds any listed
-fair-given {m} {r} {start} {w} i key f lt small idle =
+fair-given {sh} {start} {w} i key f lt small idle =
     record {
       good = f .good;
       small = f .small;
@@ -263,12 +264,12 @@ fair-given {m} {r} {start} {w} i key f lt small idle =
       chain = f .chain;
       shown-is = f .shown-is;
       put-new = f .put-new;
-      put-given = λ x h. or-right (sameEntry x (split (shapeOf m r) key)) _ (f .put-given x h);
+      put-given = λ x h. or-right (sameEntry x (split sh key)) _ (f .put-given x h);
       tally = λ k. omega (arith, f .tally k, give-tally k (w .tasks) i (given key) lt rest refl .0);
       answers = λ k.
           omega (arith, f .answers k, give-tally k (w .tasks) i (given key) lt rest refl .1, ap bitOf (eqb-sym k key));
       task-given = λ j l a b. or-else j l a b (same-or-not i j);
-      in-keys = and-both _ _ (lt-ltb key (keys (shapeOf m r)) small) (f .in-keys);
+      in-keys = and-both _ _ (lt-ltb key (keys sh) small) (f .in-keys);
       meaning = f .meaning;
       none-full = λ us space.
           let before = f .none-full us (sooner us space) in
@@ -278,18 +279,18 @@ fair-given {m} {r} {start} {w} i key f lt small idle =
           };
     }
   where
-    low : remainders (shapeOf m r) ≤ 4096
-    low = remainders-high (shapeOf m r) (good-table (shapeOf m r) (length (w .table)) (f .good) .0)
+    low : remainders sh ≤ 4096
+    low = remainders-high sh (good-table sh (length (w .table)) (f .good) .0)
 
     rest : (taskAt (w .tasks) i .phase ≡ 0) ⊎ (taskAt (w .tasks) i .phase ≡ 13)
     rest = stage-rest (taskAt (w .tasks) i) (f .inv .plain .size) (f .inv .stage i lt) idle
 
-    sooner : (us : List Entry) → Spacious m r start (key ∷ w .given) us → Spacious m r start (w .given) us
+    sooner : (us : List Entry) → Spacious sh start (key ∷ w .given) us → Spacious sh start (w .given) us
     sooner us space =
         record {
           room = space .room;
           starts = space .starts;
-          gives = λ x h. space .gives x (or-right (sameEntry x (split (shapeOf m r) key)) _ h);
+          gives = λ x h. space .gives x (or-right (sameEntry x (split sh key)) _ h);
         }
 
     unfilled :
@@ -358,26 +359,26 @@ good-range sh n h = and-left (inRange sh) _ h
 
 -- give, accepted or refused
 pub fair-give :
-    {m r : ℕ} {start : List ℕ} {w : World} (i key : ℕ) → Fair m r start w → Fair m r start (act m r w (gives i key))
+    {sh : Shape} {start : List ℕ} {w : World} (i key : ℕ) → Fair sh start w → Fair sh start (act sh w (gives i key))
 unfolding act give goodTask giveTo given-world
-fair-give {m} {r} {start} {w} i key f =
-    go (ltb key (keys (shapeOf m r))) (ltb i (length (w .tasks))) (busy (taskAt (w .tasks) i)) refl refl refl
+fair-give {sh} {start} {w} i key f =
+    go (ltb key (keys sh)) (ltb i (length (w .tasks))) (busy (taskAt (w .tasks) i)) refl refl refl
   where
-    range : inRange (shapeOf m r) ≡ true
-    range = good-range (shapeOf m r) (length (w .table)) (f .good)
+    range : inRange sh ≡ true
+    range = good-range sh (length (w .table)) (f .good)
 
     sixteen : leb (length (w .tasks)) 16 ≡ true
     sixteen = le-leb (length (w .tasks)) 16 (f .few)
 
     by-answer :
-        {x : Leaves (List Task)} → give m r key (w .tasks) i ≡ x → Fair m r start (afterGive w key x) →
-        Fair m r start (act m r w (gives i key))
-    by-answer e g = subst (λ (x : Leaves (List Task)). Fair m r start (afterGive w key x)) (sym e) g
+        {x : Leaves (List Task)} → give sh key (w .tasks) i ≡ x → Fair sh start (afterGive w key x) →
+        Fair sh start (act sh w (gives i key))
+    by-answer e g = subst (λ (x : Leaves (List Task)). Fair sh start (afterGive w key x)) (sym e) g
 
     go :
         (a b c : Bool) →
-        ltb key (keys (shapeOf m r)) ≡ a →
-        ltb i (length (w .tasks)) ≡ b → busy (taskAt (w .tasks) i) ≡ c → Fair m r start (act m r w (gives i key))
+        ltb key (keys sh) ≡ a →
+        ltb i (length (w .tasks)) ≡ b → busy (taskAt (w .tasks) i) ≡ c → Fair sh start (act sh w (gives i key))
     go false b c x y z = by-answer {x = leaves (refuses 2) (w .tasks)} (rw (range, x)) f
     go true false c x y z = by-answer {x = leaves (refuses 3) (w .tasks)} (rw (range, x, sixteen, y)) f
     go true true true x y z =
@@ -389,7 +390,7 @@ fair-give {m} {r} {start} {w} i key f =
         by-answer
         {x = leaves (says 0) (set (w .tasks) i (given key))}
         (rw (range, x, sixteen, y, z))
-        (fair-given i key f (ltb-true i (length (w .tasks)) y) (ltb-true key (keys (shapeOf m r)) x) z)
+        (fair-given i key f (ltb-true i (length (w .tasks)) y) (ltb-true key (keys sh) x) z)
 
 -- ---- a step
 puts-snoc :
@@ -412,21 +413,21 @@ holds-last x e (f ∷ es) =
     swap false false c = refl
 
 -- what a step leaves of the keys put and of the tally
-record After (m r : ℕ) (start : List ℕ) (w : World) (i : ℕ) (t′ : Task) (shown : List Entry) (laid′ : List Word)
+record After (sh : Shape) (start : List ℕ) (w : World) (i : ℕ) (t′ : Task) (shown : List Entry) (laid′ : List Word)
     (shown′ : List Entry) : Type 0 where
   put : List Entry
-  chain : laid′ ≡ puts (shapeOf m r) (wordsOf start) put
+  chain : laid′ ≡ puts sh (wordsOf start) put
   shown-is : (x : Entry) → holds x shown′ ≡ (holds x (entries (wordsOf start)) || holds x put)
   put-new : (x : Entry) → holds x put ≡ true → holds x (entries (wordsOf start)) ≡ false
-  put-given : (x : Entry) → holds x put ≡ true → holds x (entriesOf (shapeOf m r) (w .given)) ≡ true
+  put-given : (x : Entry) → holds x put ≡ true → holds x (entriesOf sh (w .given)) ≡ true
   tally :
       (key : ℕ) →
-      bitOf (holds (split (shapeOf m r) key) (entries (wordsOf start))) + timesInserted key (heard t′ (w .said))
+      bitOf (holds (split sh key) (entries (wordsOf start))) + timesInserted key (heard t′ (w .said))
       + timesLoaded key (set (w .tasks) i t′)
-      ≡ bitOf (holds (split (shapeOf m r) key) shown′)
+      ≡ bitOf (holds (split sh key) shown′)
   grows : (x : Entry) → holds x shown ≡ true → holds x shown′ ≡ true
 
-module _ {m r : ℕ} {start : List ℕ} {w : World} (f : Fair m r start w) (i : ℕ) (lt : i < length (w .tasks))
+module _ {sh : Shape} {start : List ℕ} {w : World} (f : Fair sh start w) (i : ℕ) (lt : i < length (w .tasks))
     (first : 1 ≤ taskAt (w .tasks) i .phase) (last : taskAt (w .tasks) i .phase ≤ 12) (t′ : Task)
     (after : t′ .phase ≤ 13) (same : t′ .key ≡ taskAt (w .tasks) i .key)
   where
@@ -434,9 +435,9 @@ module _ {m r : ℕ} {start : List ℕ} {w : World} (f : Fair m r start w) (i : 
     t = taskAt (w .tasks) i
 
     abbrev e : Entry
-    e = split (shapeOf m r) (t .key)
+    e = split sh (t .key)
 
-    quiet-after : weight t′ ≡ weight t → After m r start w i t′ (f .shown) (f .laid) (f .shown)
+    quiet-after : weight t′ ≡ weight t → After sh start w i t′ (f .shown) (f .laid) (f .shown)
     quiet-after even =
         record {
           put = f .put;
@@ -458,13 +459,13 @@ module _ {m r : ℕ} {start : List ℕ} {w : World} (f : Fair m r start w) (i : 
         holds e (f .shown) ≡ false →
         weight t ≡ 0 →
         weight t′ ≡ 1 →
-        After m r start w i t′ (f .shown) (after-put (shapeOf m r) (f .laid) e) (insert e (f .shown))
+        After sh start w i t′ (f .shown) (after-put sh (f .laid) e) (insert e (f .shown))
     commit-after new light heavy =
         record {
           put = f .put ++ (e ∷ []);
           chain =
-              ap (λ (vs : List Word). after-put (shapeOf m r) vs e) (f .chain)
-              ∙ sym (puts-snoc (shapeOf m r) (wordsOf start) (f .put) e);
+              ap (λ (vs : List Word). after-put sh vs e) (f .chain)
+              ∙ sym (puts-snoc sh (wordsOf start) (f .put) e);
           shown-is = λ x.
               holds-insert x e (f .shown)
               ∙ ap (λ (b : Bool). sameEntry x e || b) (f .shown-is x)
@@ -504,10 +505,10 @@ module _ {m r : ℕ} {start : List ℕ} {w : World} (f : Fair m r start w) (i : 
 
         known :
             (x : Entry) (b : Bool) → sameEntry x e ≡ b → (b || holds x (f .put)) ≡ true →
-            holds x (entriesOf (shapeOf m r) (w .given)) ≡ true
+            holds x (entriesOf sh (w .given)) ≡ true
         known x true k h =
-            ap (λ (y : Entry). holds y (entriesOf (shapeOf m r) (w .given))) (same-eq x e k)
-            ∙ sym (listed-split (shapeOf m r) (t .key) (w .given))
+            ap (λ (y : Entry). holds y (entriesOf sh (w .given))) (same-eq x e k)
+            ∙ sym (listed-split sh (t .key) (w .given))
             ∙ f .task-given i lt first last
         known x false k h = f .put-given x h
 
@@ -522,33 +523,33 @@ module _ {m r : ℕ} {start : List ℕ} {w : World} (f : Fair m r start w) (i : 
 
         one-more :
             (key : ℕ) →
-            bitOf (holds (split (shapeOf m r) key) (insert e (f .shown)))
-            ≡ bitOf (eqb (t .key) key) + bitOf (holds (split (shapeOf m r) key) (f .shown))
+            bitOf (holds (split sh key) (insert e (f .shown)))
+            ≡ bitOf (eqb (t .key) key) + bitOf (holds (split sh key) (f .shown))
         one-more key =
-            ap bitOf (holds-insert (split (shapeOf m r) key) e (f .shown))
-            ∙ go (sameEntry (split (shapeOf m r) key) e) refl
+            ap bitOf (holds-insert (split sh key) e (f .shown))
+            ∙ go (sameEntry (split sh key) e) refl
           where
             go :
                 (b : Bool) →
-                sameEntry (split (shapeOf m r) key) e ≡ b →
-                bitOf (sameEntry (split (shapeOf m r) key) e || holds (split (shapeOf m r) key) (f .shown))
-                ≡ bitOf (eqb (t .key) key) + bitOf (holds (split (shapeOf m r) key) (f .shown))
+                sameEntry (split sh key) e ≡ b →
+                bitOf (sameEntry (split sh key) e || holds (split sh key) (f .shown))
+                ≡ bitOf (eqb (t .key) key) + bitOf (holds (split sh key) (f .shown))
             go true k =
-                let here = eqb-true key (t .key) (sym (same-split (shapeOf m r) key (t .key)) ∙ k) in
-                ap (λ (b : Bool). bitOf (b || holds (split (shapeOf m r) key) (f .shown))) k
+                let here = eqb-true key (t .key) (sym (same-split sh key (t .key)) ∙ k) in
+                ap (λ (b : Bool). bitOf (b || holds (split sh key) (f .shown))) k
                 ∙ sym
                 (ap₂
                 (λ (a b : Bool). bitOf a + bitOf b)
                 (eq-eqb (t .key) key (sym here))
-                (ap (λ (y : Entry). holds y (f .shown)) (same-eq (split (shapeOf m r) key) e k) ∙ new))
+                (ap (λ (y : Entry). holds y (f .shown)) (same-eq (split sh key) e k) ∙ new))
             go false k =
-                let apart = eqb-false key (t .key) (sym (same-split (shapeOf m r) key (t .key)) ∙ k) in
-                ap (λ (b : Bool). bitOf (b || holds (split (shapeOf m r) key) (f .shown))) k
+                let apart = eqb-false key (t .key) (sym (same-split sh key (t .key)) ∙ k) in
+                ap (λ (b : Bool). bitOf (b || holds (split sh key) (f .shown))) k
                 ∙ sym
                 (ap
-                (λ (a : Bool). bitOf a + bitOf (holds (split (shapeOf m r) key) (f .shown)))
+                (λ (a : Bool). bitOf a + bitOf (holds (split sh key) (f .shown)))
                 (ne-eqb (t .key) key (λ z. apart (sym z)))
-                ∙ zero-add (bitOf (holds (split (shapeOf m r) key) (f .shown))))
+                ∙ zero-add (bitOf (holds (split sh key) (f .shown))))
 
 -- ---- the world after a step
 abbrev stepped-world : World → ℕ → Task → List Word → World
@@ -570,20 +571,20 @@ stage-last t (marking p k x n y) = omega arith
 stage-last t (frees-left p k x y) = omega arith
 stage-last t (frees-right p k x y) = omega arith
 
-module _ {m r : ℕ} {start : List ℕ} {w : World} (f : Fair m r start w) (i : ℕ) (lt : i < length (w .tasks))
+module _ {sh : Shape} {start : List ℕ} {w : World} (f : Fair sh start w) (i : ℕ) (lt : i < length (w .tasks))
     (first : 1 ≤ taskAt (w .tasks) i .phase) (last : taskAt (w .tasks) i .phase ≤ 12)
-    (k : Walked (shapeOf m r) (wordsOf (w .table)) (w .tasks) (f .laid) (f .shown) i)
+    (k : Walked sh (wordsOf (w .table)) (w .tasks) (f .laid) (f .shown) i)
   where
     at-last : k .next .phase ≤ 13
     at-last = stage-last (k .next) (k .shows .stage)
 
-    left-of : After m r start w i (k .next) (f .shown) (k .laid-after) (k .shown-after)
+    left-of : After sh start w i (k .next) (f .shown) (k .laid-after) (k .shown-after)
     left-of = go (k .effect)
       where
         go :
             {laid′ : List Word} {shown′ : List Entry} →
-            Effect (shapeOf m r) (taskAt (w .tasks) i) (k .next) (f .laid) (f .shown) laid′ shown′ →
-            After m r start w i (k .next) (f .shown) laid′ shown′
+            Effect sh (taskAt (w .tasks) i) (k .next) (f .laid) (f .shown) laid′ shown′ →
+            After sh start w i (k .next) (f .shown) laid′ shown′
         go (keeps even) = quiet-after f i lt first last (k .next) at-last (k .same-key) even
         go (commits new light heavy) = commit-after f i lt first last (k .next) at-last (k .same-key) new light heavy
 
@@ -591,20 +592,20 @@ module _ {m r : ℕ} {start : List ℕ} {w : World} (f : Fair m r start w) (i : 
     back = words-of-bytes (k .words) (k .shows .small)
 
     inv-after :
-        Inv (shapeOf m r) (wordsOf (bytesOf (k .words))) (set (w .tasks) i (k .next)) (k .laid-after) (k .shown-after)
+        Inv sh (wordsOf (bytesOf (k .words))) (set (w .tasks) i (k .next)) (k .laid-after) (k .shown-after)
     inv-after =
         subst
-        (λ (ws : List Word). Inv (shapeOf m r) ws (set (w .tasks) i (k .next)) (k .laid-after) (k .shown-after))
+        (λ (ws : List Word). Inv sh ws (set (w .tasks) i (k .next)) (k .laid-after) (k .shown-after))
         (sym back)
         (inv-update i lt (f .inv) (k .shows))
 
-    good-after : goodTable (shapeOf m r) (length (bytesOf (k .words))) ≡ true
+    good-after : goodTable sh (length (bytesOf (k .words))) ≡ true
     unfolding goodTable fitsLength
     good-after =
         and-both
         _
         _
-        (good-range (shapeOf m r) (length (w .table)) (f .good))
+        (good-range sh (length (w .table)) (f .good))
         (eq-eqb
         _
         _
@@ -612,7 +613,7 @@ module _ {m r : ℕ} {start : List ℕ} {w : World} (f : Fair m r start w) (i : 
         ∙ ap
         (λ (n : ℕ). 2 * n)
         (words-size
-        (remainders-high (shapeOf m r) (good-table (shapeOf m r) (length (w .table)) (f .good) .0))
+        (remainders-high sh (good-table sh (length (w .table)) (f .good) .0))
         (inv-update i lt (f .inv) (k .shows)))))
 
     -- the stepped record's key, and every other's, was given
@@ -639,19 +640,19 @@ module _ {m r : ℕ} {start : List ℕ} {w : World} (f : Fair m r start w) (i : 
         (subst (λ (t : Task). t .phase ≤ 12) same b)
 
     -- answers said before mean what they meant; a new one what it should
-    meaning-after : All (Means (shapeOf m r) (k .shown-after)) (heard (k .next) (w .said))
+    meaning-after : All (Means sh (k .shown-after)) (heard (k .next) (w .said))
     meaning-after = go (eqb (k .next .phase) 13) refl
       where
-        older : All (Means (shapeOf m r) (k .shown-after)) (w .said)
+        older : All (Means sh (k .shown-after)) (w .said)
         older = every.all-map later (f .meaning)
           where
-            later : (s : Said) → Means (shapeOf m r) (f .shown) s → Means (shapeOf m r) (k .shown-after) s
+            later : (s : Said) → Means sh (f .shown) s → Means sh (k .shown-after) s
             later s (means-full e) = means-full e
-            later s (means-shown e h) = means-shown e (left-of .grows (split (shapeOf m r) (s .key)) h)
+            later s (means-shown e h) = means-shown e (left-of .grows (split sh (s .key)) h)
 
         meant :
-            Answered (shapeOf m r) (k .shown-after) (k .next) →
-            Means (shapeOf m r) (k .shown-after) (record { key = k .next .key; answer = k .next .answer })
+            Answered sh (k .shown-after) (k .next) →
+            Means sh (k .shown-after) (record { key = k .next .key; answer = k .next .answer })
         meant (says-full e) = means-full e
         meant (says-shown e h) = means-shown e h
 
@@ -659,24 +660,24 @@ module _ {m r : ℕ} {start : List ℕ} {w : World} (f : Fair m r start w) (i : 
             (b : Bool) →
             eqb (k .next .phase) 13 ≡ b →
             All
-            (Means (shapeOf m r) (k .shown-after))
+            (Means sh (k .shown-after))
             (cond b (record { key = k .next .key; answer = k .next .answer } ∷ w .said) (w .said))
         go true e = every.both (meant (k .ends (eqb-true (k .next .phase) 13 e))) older
         go false e = older
 
     -- with room for all keys nobody says full
-    not-full : (us : List Entry) → Spacious m r start (w .given) us → k .next .answer ≢ 3
+    not-full : (us : List Entry) → Spacious sh start (w .given) us → k .next .answer ≢ 3
     not-full us space full = go (k .full full)
       where
         e : Entry
-        e = split (shapeOf m r) (taskAt (w .tasks) i .key)
+        e = split sh (taskAt (w .tasks) i .key)
 
         here : holds e us ≡ true
         here =
             space
             .gives
             e
-            (sym (listed-split (shapeOf m r) (taskAt (w .tasks) i .key) (w .given)) ∙ f .task-given i lt first last)
+            (sym (listed-split sh (taskAt (w .tasks) i .key) (w .given)) ∙ f .task-given i lt first last)
 
         inside : Inside (f .shown) us
         inside x h = either (holds x (entries (wordsOf start))) refl (sym (f .shown-is x) ∙ h)
@@ -689,8 +690,8 @@ module _ {m r : ℕ} {start : List ℕ} {w : World} (f : Fair m r start w) (i : 
 
         go :
             (taskAt (w .tasks) i .answer ≡ 3)
-            ⊎ (AllTaken (shapeOf m r) (occupiedPlaces (f .laid))
-            × (holds (split (shapeOf m r) (taskAt (w .tasks) i .key)) (f .shown) ≡ false)) →
+            ⊎ (AllTaken sh (occupiedPlaces (f .laid))
+            × (holds (split sh (taskAt (w .tasks) i .key)) (f .shown) ≡ false)) →
             ⊥
         go (inl before) = f .none-full us space .of-busy i lt first last before
         go (inr (every, new)) =
@@ -702,12 +703,12 @@ module _ {m r : ℕ} {start : List ℕ} {w : World} (f : Fair m r start w) (i : 
             here
             new
             (full-room
-            (table-guarded (shapeOf m r) (f .inv .plain .size) (f .inv .plain .table))
+            (table-guarded sh (f .inv .plain .size) (f .inv .plain .table))
             (in-home e (space .room) here)
             every)
 
     none-full-after :
-        (us : List Entry) → Spacious m r start (w .given) us →
+        (us : List Entry) → Spacious sh start (w .given) us →
         NoneFull (set (w .tasks) i (k .next)) (heard (k .next) (w .said))
     none-full-after us space =
         record {
@@ -749,7 +750,7 @@ module _ {m r : ℕ} {start : List ℕ} {w : World} (f : Fair m r start w) (i : 
         go true = every.both (not-full us space) (before .of-said)
         go false = before .of-said
 
-    fair-stepped : Fair m r start (stepped-world w i (k .next) (k .words))
+    fair-stepped : Fair sh start (stepped-world w i (k .next) (k .words))
     fair-stepped =
         record {
           good = good-after;
@@ -778,18 +779,18 @@ abbrev lent : World → Lent
 lent w = record { table = w .table; tasks = w .tasks }
 
 -- what a step answers: by the task number, by a task at rest, or a busy task's walk
-data StepCase {m r : ℕ} {start : List ℕ} {w : World} (f : Fair m r start w) (i : ℕ) : Type 0 where
-  no-task : length (w .tasks) ≤ i → step m r (w .table) (w .tasks) i ≡ leaves (refuses 3) (lent w) → StepCase f i
+data StepCase {sh : Shape} {start : List ℕ} {w : World} (f : Fair sh start w) (i : ℕ) : Type 0 where
+  no-task : length (w .tasks) ≤ i → step sh (w .table) (w .tasks) i ≡ leaves (refuses 3) (lent w) → StepCase f i
   resting :
       i < length (w .tasks) →
-      atRest (taskAt (w .tasks) i) ≡ true → step m r (w .table) (w .tasks) i ≡ leaves (refuses 5) (lent w) →
+      atRest (taskAt (w .tasks) i) ≡ true → step sh (w .table) (w .tasks) i ≡ leaves (refuses 5) (lent w) →
       StepCase f i
   walked :
       (lt : i < length (w .tasks)) →
       1 ≤ taskAt (w .tasks) i .phase →
       taskAt (w .tasks) i .phase ≤ 12 →
-      (k : Walked (shapeOf m r) (wordsOf (w .table)) (w .tasks) (f .laid) (f .shown) i) →
-      step m r (w .table) (w .tasks) i
+      (k : Walked sh (wordsOf (w .table)) (w .tasks) (f .laid) (f .shown) i) →
+      step sh (w .table) (w .tasks) i
       ≡ leaves (says 0) (record { table = bytesOf (k .words); tasks = set (w .tasks) i (k .next) }) →
       StepCase f i
 
@@ -809,11 +810,11 @@ between t le h = go (eqb (t .phase) 0) (eqb (t .phase) 13) refl refl h
         (omega (arith, n), omega (arith, o, le))
 
 rest-refused :
-    {m r : ℕ} {start : List ℕ} {w : World} (f : Fair m r start w) (i : ℕ) →
+    {sh : Shape} {start : List ℕ} {w : World} (f : Fair sh start w) (i : ℕ) →
     i < length (w .tasks) →
-    atRest (taskAt (w .tasks) i) ≡ true → stepOf (shapeOf m r) (wordsOf (w .table)) (taskAt (w .tasks) i) ≡ refused 5
+    atRest (taskAt (w .tasks) i) ≡ true → stepOf sh (wordsOf (w .table)) (taskAt (w .tasks) i) ≡ refused 5
 unfolding stepOf
-rest-refused {m} {r} {start} {w} f i lt rest =
+rest-refused {sh} {start} {w} f i lt rest =
     rw (
       stage-fits
           {ws = wordsOf (w .table)}
@@ -824,21 +825,21 @@ rest-refused {m} {r} {start} {w} f i lt rest =
       rest,
     )
 
-step-case : {m r : ℕ} {start : List ℕ} {w : World} (f : Fair m r start w) (i : ℕ) → StepCase f i
+step-case : {sh : Shape} {start : List ℕ} {w : World} (f : Fair sh start w) (i : ℕ) → StepCase f i
 unfolding step goodTask
-step-case {m} {r} {start} {w} f i = go (ltb i (length (w .tasks))) refl
+step-case {sh} {start} {w} f i = go (ltb i (length (w .tasks))) refl
   where
     sixteen : leb (length (w .tasks)) 16 ≡ true
     sixteen = le-leb (length (w .tasks)) 16 (f .few)
 
     passed :
         ltb i (length (w .tasks)) ≡ true →
-        step m r (w .table) (w .tasks) i
-        ≡ lentAfter (w .table) (w .tasks) i (stepOf (shapeOf m r) (wordsOf (w .table)) (taskAt (w .tasks) i))
+        step sh (w .table) (w .tasks) i
+        ≡ lentAfter (w .table) (w .tasks) i (stepOf sh (wordsOf (w .table)) (taskAt (w .tasks) i))
     passed e = rw (f .good, sixteen, e)
 
-    low : remainders (shapeOf m r) ≤ 4096
-    low = remainders-high (shapeOf m r) (good-table (shapeOf m r) (length (w .table)) (f .good) .0)
+    low : remainders sh ≤ 4096
+    low = remainders-high sh (good-table sh (length (w .table)) (f .good) .0)
 
     here : ltb i (length (w .tasks)) ≡ true → (b : Bool) → atRest (taskAt (w .tasks) i) ≡ b → StepCase f i
     here e true rest =
@@ -855,16 +856,16 @@ step-case {m} {r} {start} {w} f i = go (ltb i (length (w .tasks))) refl
     go false e = no-task (ltb-false i (length (w .tasks)) e) (rw (f .good, sixteen, e))
     go true e = here e (atRest (taskAt (w .tasks) i)) refl
 
-pub fair-step : {m r : ℕ} {start : List ℕ} {w : World} (i : ℕ) → Fair m r start w → Fair m r start (act m r w (steps i))
+pub fair-step : {sh : Shape} {start : List ℕ} {w : World} (i : ℕ) → Fair sh start w → Fair sh start (act sh w (steps i))
 unfolding act
-fair-step {m} {r} {start} {w} i f = go (step-case f i)
+fair-step {sh} {start} {w} i f = go (step-case f i)
   where
     by-answer :
         {x : Leaves Lent} →
-        step m r (w .table) (w .tasks) i ≡ x → Fair m r start (afterStep w i x) → Fair m r start (act m r w (steps i))
-    by-answer e g = subst (λ (x : Leaves Lent). Fair m r start (afterStep w i x)) (sym e) g
+        step sh (w .table) (w .tasks) i ≡ x → Fair sh start (afterStep w i x) → Fair sh start (act sh w (steps i))
+    by-answer e g = subst (λ (x : Leaves Lent). Fair sh start (afterStep w i x)) (sym e) g
 
-    go : StepCase f i → Fair m r start (act m r w (steps i))
+    go : StepCase f i → Fair sh start (act sh w (steps i))
     go (no-task le e) = by-answer {x = leaves (refuses 3) (lent w)} e f
     go (resting lt rest e) = by-answer {x = leaves (refuses 5) (lent w)} e f
     go (walked lt first last k e) =
@@ -874,8 +875,7 @@ fair-step {m} {r} {start} {w} i f = go (step-case f i)
         (subst
         (λ (t : Task).
         Fair
-        m
-        r
+        sh
         start
         (record {
           table = bytesOf (k .words);
@@ -887,13 +887,13 @@ fair-step {m} {r} {start} {w} i f = go (step-case f i)
         (fair-stepped f i lt first last k))
 
 -- ---- any number of actions
-pub fair-act : {m r : ℕ} {start : List ℕ} {w : World} (a : Action) → Fair m r start w → Fair m r start (act m r w a)
+pub fair-act : {sh : Shape} {start : List ℕ} {w : World} (a : Action) → Fair sh start w → Fair sh start (act sh w a)
 fair-act (gives i key) f = fair-give i key f
 fair-act (steps i) f = fair-step i f
 
 pub fair-course :
-    {m r : ℕ} {start : List ℕ} {w : World} (more : List Action) → Fair m r start w →
-    Fair m r start (course m r w more)
+    {sh : Shape} {start : List ℕ} {w : World} (more : List Action) → Fair sh start w →
+    Fair sh start (course sh w more)
 unfolding course
 fair-course [] f = f
 fair-course (a ∷ more) f = fair-course more (fair-act a f)
@@ -908,16 +908,16 @@ abbrev pub answer-of : {A : Type 0} → Leaves A → Answer
 answer-of (leaves a x) = a
 
 pub step-answers :
-    {m r : ℕ} {start : List ℕ} {w : World} (i : ℕ) →
-    Fair m r start w → StepAnswer (w .tasks) i (answer-of (step m r (w .table) (w .tasks) i))
-step-answers {m} {r} {start} {w} i f = go (step-case f i)
+    {sh : Shape} {start : List ℕ} {w : World} (i : ℕ) →
+    Fair sh start w → StepAnswer (w .tasks) i (answer-of (step sh (w .table) (w .tasks) i))
+step-answers {sh} {start} {w} i f = go (step-case f i)
   where
     by :
-        {x : Leaves Lent} → step m r (w .table) (w .tasks) i ≡ x → StepAnswer (w .tasks) i (answer-of x) →
-        StepAnswer (w .tasks) i (answer-of (step m r (w .table) (w .tasks) i))
+        {x : Leaves Lent} → step sh (w .table) (w .tasks) i ≡ x → StepAnswer (w .tasks) i (answer-of x) →
+        StepAnswer (w .tasks) i (answer-of (step sh (w .table) (w .tasks) i))
     by e s = subst (λ (x : Leaves Lent). StepAnswer (w .tasks) i (answer-of x)) (sym e) s
 
-    go : StepCase f i → StepAnswer (w .tasks) i (answer-of (step m r (w .table) (w .tasks) i))
+    go : StepCase f i → StepAnswer (w .tasks) i (answer-of (step sh (w .table) (w .tasks) i))
     go (no-task le e) = by {x = leaves (refuses 3) (lent w)} e (not-a-task le)
     go (resting lt rest e) = by {x = leaves (refuses 5) (lent w)} e (at-leisure lt rest)
     go (walked lt first last k e) =

@@ -17,7 +17,7 @@ use Rattle.rules.specs.Shape.{remainders, keys}
 use Rattle.rules.specs.Entry.{Entry}
 use Rattle.rules.specs.Table.{at, occupiedPlaces}
 use Rattle.rules.specs.Record.{homePlaceOf, toPhase, withHand, withAnswer}
-use Rattle.rules.specs.Give.{taskAt}
+use Rattle.rules.specs.Record.{taskAt}
 use Rattle.rules.specs.Phase as phase
 use Rattle.rules.specs.Phase.{to, neighbour, exchange, movesOn, marked}
 use Rattle.theory.specs.Run.{unlock}

@@ -17,7 +17,7 @@ use Rattle.rules.specs.Entry.{Entry, split}
 use Rattle.rules.specs.Table.{at, occupiedPlaces, entriesBetween}
 use Rattle.rules.specs.Lay.{holds}
 use Rattle.rules.specs.Record.{homePlaceOf}
-use Rattle.rules.specs.Give.{taskAt}
+use Rattle.rules.specs.Record.{taskAt}
 use Rattle.rules.specs.Phase.{smaller, markOf}
 use Rattle.theory.specs.Run.{unlock}
 use Rattle.theory.specs.Gaps as gaps

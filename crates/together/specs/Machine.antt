@@ -5,11 +5,13 @@ use Prim.Native.Nat.{ℕ}
 use mathlib.Core.Bool.{Bool, cond, _&&_}
 use mathlib.Core.List.{List, [], _∷_}
 use lib.Dec.{eqb}
+use Rattle.rules.specs.declared.Shape.{Shape}
 use Rattle.rules.specs.declared.Task.{Task}
 use Rattle.rules.specs.Lists.{count, all}
 use Rattle.rules.specs.Answer.{Leaves, leaves}
 use Rattle.rules.specs.Record.{atRest}
-use Rattle.rules.specs.Give.{taskAt, give}
+use Rattle.rules.specs.Give.{give}
+use Rattle.rules.specs.Record.{taskAt}
 use Rattle.rules.specs.Step.{Lent, step}
 
 -- a give (task number, key) or a step (task number)
@@ -57,14 +59,14 @@ afterStep w i (leaves a l) =
           (w .said);
     }
 
-unfoldable pub act : ℕ → ℕ → World → Action → World
-act m r w (gives i key) = afterGive w key (give m r key (w .tasks) i)
-act m r w (steps i) = afterStep w i (step m r (w .table) (w .tasks) i)
+unfoldable pub act : Shape → World → Action → World
+act sh w (gives i key) = afterGive w key (give sh key (w .tasks) i)
+act sh w (steps i) = afterStep w i (step sh (w .table) (w .tasks) i)
 
 -- any number of actions, one after the other
-unfoldable pub course : ℕ → ℕ → World → List Action → World
-course m r w [] = w
-course m r w (a ∷ more) = course m r (act m r w a) more
+unfoldable pub course : Shape → World → List Action → World
+course sh w [] = w
+course sh w (a ∷ more) = course sh (act sh w a) more
 
 -- every task is idle or done
 unfoldable pub quiet : List Task → Bool

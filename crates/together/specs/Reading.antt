@@ -17,7 +17,7 @@ use Rattle.rules.specs.Entry.{Entry, split}
 use Rattle.rules.specs.Table.{at, occupiedPlaces, entriesBetween}
 use Rattle.rules.specs.Lay.{holds}
 use Rattle.rules.specs.Record.{homePlaceOf, toPhase, withHand, withGoal, withAnswer}
-use Rattle.rules.specs.Give.{taskAt}
+use Rattle.rules.specs.Record.{taskAt}
 use Rattle.rules.specs.Phase as phase
 use Rattle.rules.specs.Phase.{to, smaller, markOf, readable, handOf, goalOf, readEntries}
 use Rattle.theory.specs.Dealt.{and-both, and-left, and-right}

@@ -14,13 +14,13 @@ use Rattle.rules.specs.declared.Shape.{Shape}
 use Rattle.rules.specs.Lists.{bitOf, count, all, any}
 use Rattle.rules.specs.Word.{Word}
 use Rattle.rules.specs.Bytes.{wordsOf, bytesOf}
-use Rattle.rules.specs.Shape.{shapeOf, homes, remainders, keys, places}
+use Rattle.rules.specs.Shape.{homes, remainders, keys, places}
 use Rattle.rules.specs.Entry.{Entry, split, join, sameEntry}
 use Rattle.rules.specs.Table.{at, entries, list}
 use Rattle.rules.specs.Lay.{holds, ascend}
 use Rattle.rules.specs.Build.{puts}
 use Rattle.rules.specs.Record.{atRest}
-use Rattle.rules.specs.Give.{taskAt}
+use Rattle.rules.specs.Record.{taskAt}
 use Rattle.table_words.specs.Range.{InRange, good-table, remainders-high}
 use Rattle.table_words.specs.Layout.{bytes-are, same-bytes}
 use Rattle.theory.specs.Run.{unlock}
@@ -136,14 +136,14 @@ back-again sh (e ∷ es) h =
     let here = h e (or-left _ _ (same-refl e)) in
     (ap₂ _∷_ (here .0) (more .0), and-both _ _ (lt-ltb (join sh e) (keys sh) (here .1)) (more .1))
 
-module _ {m r : ℕ} {start : List ℕ} {w : World} (t : PlainTable m r start) (f : Fair m r start w)
+module _ {sh : Shape} {start : List ℕ} {w : World} (t : PlainTable sh start) (f : Fair sh start w)
     (rest : all atRest (w .tasks) ≡ true)
   where
-    range : InRange (shapeOf m r)
-    range = good-table (shapeOf m r) (length (w .table)) (f .good) .0
+    range : InRange sh
+    range = good-table sh (length (w .table)) (f .good) .0
 
-    low : remainders (shapeOf m r) ≤ 4096
-    low = remainders-high (shapeOf m r) range
+    low : remainders sh ≤ 4096
+    low = remainders-high sh range
 
     free-at : (p : ℕ) → at (wordsOf (w .table)) p .lock ≡ false
     free-at p = go (at (wordsOf (w .table)) p .lock) refl
@@ -170,52 +170,52 @@ module _ {m r : ℕ} {start : List ℕ} {w : World} (t : PlainTable m r start) (
         (words-size low (f .inv) ∙ sym (f .inv .plain .size))
         (λ p. sym (unlock-free (at (wordsOf (w .table)) p) (free-at p)) ∙ f .inv .settled p (finished-at p))
 
-    even : length (w .table) ≡ 2 * places (shapeOf m r)
-    even = good-table (shapeOf m r) (length (w .table)) (f .good) .1
+    even : length (w .table) ≡ 2 * places sh
+    even = good-table sh (length (w .table)) (f .good) .1
 
     table-laid : w .table ≡ bytesOf (f .laid)
-    table-laid = bytes-are (w .table) (places (shapeOf m r)) (f .laid) even (f .small) words-laid
+    table-laid = bytes-are (w .table) (places sh) (f .laid) even (f .small) words-laid
 
-    pub rest-plain : PlainTable m r (w .table)
-    rest-plain = subst (PlainTable m r) (sym table-laid) (plain-of m r range (f .inv .plain))
+    pub rest-plain : PlainTable sh (w .table)
+    rest-plain = subst (PlainTable sh) (sym table-laid) (plain-of sh range (f .inv .plain))
 
     shows : entries (wordsOf (w .table)) ≡ f .shown
-    shows = ap entries words-laid ∙ table-entries (shapeOf m r) low (f .inv .plain .table)
+    shows = ap entries words-laid ∙ table-entries sh low (f .inv .plain .table)
 
     pub rest-answers : (x : ℕ) → timesSaid x (w .said) ≡ timesGiven x (w .given)
     rest-answers x = omega (arith, f .answers x, quiet-counts x (w .tasks) rest .1)
 
     inside-tally :
         (x : ℕ) →
-        x < keys (shapeOf m r) →
-        bitOf (listed x (listOf m r start)) + timesInserted x (w .said) ≡ bitOf (listed x (listOf m r (w .table)))
+        x < keys sh →
+        bitOf (listed x (listOf sh start)) + timesInserted x (w .said) ≡ bitOf (listed x (listOf sh (w .table)))
     inside-tally x lt =
         omega (
           arith,
           f .tally x,
           quiet-counts x (w .tasks) rest .0,
           ap bitOf (listed-here (t .whole) x lt),
-          ap bitOf (listed-here (rest-plain .whole) x lt ∙ ap (holds (split (shapeOf m r) x)) shows),
+          ap bitOf (listed-here (rest-plain .whole) x lt ∙ ap (holds (split sh x)) shows),
         )
 
     unlisted :
-        {bytes : List ℕ} (x : ℕ) → SoundTable m r bytes → keys (shapeOf m r) ≤ x → listed x (listOf m r bytes) ≡ false
-    unlisted {bytes} x u le = go (listed x (listOf m r bytes)) refl
+        {bytes : List ℕ} (x : ℕ) → SoundTable sh bytes → keys sh ≤ x → listed x (listOf sh bytes) ≡ false
+    unlisted {bytes} x u le = go (listed x (listOf sh bytes)) refl
       where
-        go : (b : Bool) → listed x (listOf m r bytes) ≡ b → b ≡ false
+        go : (b : Bool) → listed x (listOf sh bytes) ≡ b → b ≡ false
         go true e =
             absurd
             (omega (
               arith,
-              listed-in-keys (shapeOf m r) x (listOf m r bytes) (ascending-keys (shapeOf m r) (ascending-list u)) e,
+              listed-in-keys sh x (listOf sh bytes) (ascending-keys sh (ascending-list u)) e,
             ))
         go false e = refl
 
-    never-inserted : (x : ℕ) → keys (shapeOf m r) ≤ x → timesInserted x (w .said) ≡ 0
+    never-inserted : (x : ℕ) → keys sh ≤ x → timesInserted x (w .said) ≡ 0
     never-inserted x le = go (listed x (w .given)) refl
       where
         go : (b : Bool) → listed x (w .given) ≡ b → timesInserted x (w .said) ≡ 0
-        go true e = absurd (omega (arith, listed-in-keys (shapeOf m r) x (w .given) (f .in-keys) e))
+        go true e = absurd (omega (arith, listed-in-keys sh x (w .given) (f .in-keys) e))
         go false e = none (in-order (timesGiven x (w .given)) 0)
           where
             none : (timesGiven x (w .given) ≤ 0) ⊎ (0 < timesGiven x (w .given)) → timesInserted x (w .said) ≡ 0
@@ -225,12 +225,12 @@ module _ {m r : ℕ} {start : List ℕ} {w : World} (t : PlainTable m r start) (
     -- a key is listed once for each reason: it was there, or it was answered inserted
     pub rest-tally :
         (x : ℕ) →
-        bitOf (listed x (listOf m r start)) + timesInserted x (w .said) ≡ bitOf (listed x (listOf m r (w .table)))
-    rest-tally x = go (in-order (keys (shapeOf m r)) x)
+        bitOf (listed x (listOf sh start)) + timesInserted x (w .said) ≡ bitOf (listed x (listOf sh (w .table)))
+    rest-tally x = go (in-order (keys sh) x)
       where
         go :
-            (keys (shapeOf m r) ≤ x) ⊎ (x < keys (shapeOf m r)) →
-            bitOf (listed x (listOf m r start)) + timesInserted x (w .said) ≡ bitOf (listed x (listOf m r (w .table)))
+            (keys sh ≤ x) ⊎ (x < keys sh) →
+            bitOf (listed x (listOf sh start)) + timesInserted x (w .said) ≡ bitOf (listed x (listOf sh (w .table)))
         go (inl le) =
             omega (
               arith,
@@ -241,34 +241,34 @@ module _ {m r : ℕ} {start : List ℕ} {w : World} (t : PlainTable m r start) (
         go (inr lt) = inside-tally x lt
 
     -- ---- with room for all
-    module _ (few : distinct (shapeOf m r) (listOf m r start ++ w .given) ≤ homes (shapeOf m r)) where
+    module _ (few : distinct sh (listOf sh start ++ w .given) ≤ homes sh) where
       us : List Entry
-      us = ascend (entriesOf (shapeOf m r) (listOf m r start ++ w .given))
+      us = ascend (entriesOf sh (listOf sh start ++ w .given))
 
-      in-list : InKeys (shapeOf m r) (listOf m r start)
-      in-list = ascending-keys (shapeOf m r) (ascending-list (t .whole))
+      in-list : InKeys sh (listOf sh start)
+      in-list = ascending-keys sh (ascending-list (t .whole))
 
       among :
-          (x : Entry) → holds x us ≡ (holds x (entries (wordsOf start)) || holds x (entriesOf (shapeOf m r) (w .given)))
+          (x : Entry) → holds x us ≡ (holds x (entries (wordsOf start)) || holds x (entriesOf sh (w .given)))
       unfolding us list
       among x =
-          holds-ascend x (entriesOf (shapeOf m r) (listOf m r start ++ w .given))
-          ∙ ap (holds x) (map-both (shapeOf m r) (listOf m r start) (w .given))
-          ∙ holds-append x (entriesOf (shapeOf m r) (listOf m r start)) (entriesOf (shapeOf m r) (w .given))
+          holds-ascend x (entriesOf sh (listOf sh start ++ w .given))
+          ∙ ap (holds x) (map-both sh (listOf sh start) (w .given))
+          ∙ holds-append x (entriesOf sh (listOf sh start)) (entriesOf sh (w .given))
           ∙ ap
-          (λ (fs : List Entry). holds x fs || holds x (entriesOf (shapeOf m r) (w .given)))
-          (split-keys (shapeOf m r) (in-shape (t .whole)))
+          (λ (fs : List Entry). holds x fs || holds x (entriesOf sh (w .given)))
+          (split-keys sh (in-shape (t .whole)))
 
-      space : Spacious m r start (w .given) us
+      space : Spacious sh start (w .given) us
       unfolding us
       space =
           record {
             room =
                 keys-roomy
-                (shapeOf m r)
-                (listOf m r start ++ w .given)
+                sh
+                (listOf sh start ++ w .given)
                 low
-                (all-both (shapeOf m r) (listOf m r start) (w .given) in-list (f .in-keys))
+                (all-both sh (listOf sh start) (w .given) in-list (f .in-keys))
                 few;
             starts = λ x h. among x ∙ or-left (holds x (entries (wordsOf start))) _ h;
             gives = λ x h. among x ∙ or-right (holds x (entries (wordsOf start))) _ h;
@@ -278,7 +278,7 @@ module _ {m r : ℕ} {start : List ℕ} {w : World} (t : PlainTable m r start) (
       rest-none-full = f .none-full us space .of-said
 
       -- each given key is shown
-      given-shown : (x : ℕ) → listed x (w .given) ≡ true → holds (split (shapeOf m r) x) (f .shown) ≡ true
+      given-shown : (x : ℕ) → listed x (w .given) ≡ true → holds (split sh x) (f .shown) ≡ true
       given-shown x h =
           said-shown
           x
@@ -287,21 +287,21 @@ module _ {m r : ℕ} {start : List ℕ} {w : World} (t : PlainTable m r start) (
           rest-none-full
           (omega (arith, rest-answers x, listed-times x (w .given) h))
 
-      pub rest-listed : (x : ℕ) → listed x (w .given) ≡ true → listed x (listOf m r (w .table)) ≡ true
+      pub rest-listed : (x : ℕ) → listed x (w .given) ≡ true → listed x (listOf sh (w .table)) ≡ true
       rest-listed x h =
-          let lt = listed-in-keys (shapeOf m r) x (w .given) (f .in-keys) h in
-          listed-here (rest-plain .whole) x lt ∙ ap (holds (split (shapeOf m r) x)) shows ∙ given-shown x h
+          let lt = listed-in-keys sh x (w .given) (f .in-keys) h in
+          listed-here (rest-plain .whole) x lt ∙ ap (holds (split sh x)) shows ∙ given-shown x h
 
       pub rest-found-or-inserted : All (λ (s : Said). (s .answer ≡ 1) ⊎ (s .answer ≡ 2)) (w .said)
       rest-found-or-inserted = go (w .said) (f .meaning) rest-none-full
         where
-          one : (s : Said) → Means (shapeOf m r) (f .shown) s → s .answer ≢ 3 → (s .answer ≡ 1) ⊎ (s .answer ≡ 2)
+          one : (s : Said) → Means sh (f .shown) s → s .answer ≢ 3 → (s .answer ≡ 1) ⊎ (s .answer ≡ 2)
           one s (means-full e) n = absurd (n e)
           one s (means-shown e h) n = e
 
           go :
               (ss : List Said) →
-              All (Means (shapeOf m r) (f .shown)) ss →
+              All (Means sh (f .shown)) ss →
               All (λ (s : Said). s .answer ≢ 3) ss → All (λ (s : Said). (s .answer ≡ 1) ⊎ (s .answer ≡ 2)) ss
           go [] ms ns = every.none
           go (s ∷ ss) (every.both x ms) (every.both n ns) = every.both (one s x n) (go ss ms ns)
@@ -309,32 +309,32 @@ module _ {m r : ℕ} {start : List ℕ} {w : World} (t : PlainTable m r start) (
       -- ---- the bytes
       -- the keys put, in the order in which they were
       js : List ℕ
-      js = map (join (shapeOf m r)) (f .put)
+      js = map (join sh) (f .put)
 
       put-inside :
           (x : Entry) → holds x (f .put) ≡ true →
-          (split (shapeOf m r) (join (shapeOf m r) x) ≡ x) × (join (shapeOf m r) x < keys (shapeOf m r))
-      put-inside x h = held-key (shapeOf m r) (w .given) x low (f .in-keys) (f .put-given x h)
+          (split sh (join sh x) ≡ x) × (join sh x < keys sh)
+      put-inside x h = held-key sh (w .given) x low (f .in-keys) (f .put-given x h)
 
-      put-back : (entriesOf (shapeOf m r) js ≡ f .put) × InKeys (shapeOf m r) js
+      put-back : (entriesOf sh js ≡ f .put) × InKeys sh js
       unfolding js
-      put-back = back-again (shapeOf m r) (f .put) put-inside
+      put-back = back-again sh (f .put) put-inside
 
       -- the keys put are those given that were not there at the start
       new-keys :
-          (x : ℕ) → x < keys (shapeOf m r) → (listed x (w .given) && not (listed x (listOf m r start))) ≡ listed x js
+          (x : ℕ) → x < keys sh → (listed x (w .given) && not (listed x (listOf sh start))) ≡ listed x js
       new-keys x lt =
-          go (holds e (f .put)) (listed x (w .given)) (listed x (listOf m r start)) refl refl refl
+          go (holds e (f .put)) (listed x (w .given)) (listed x (listOf sh start)) refl refl refl
           ∙ ap (holds e) (sym (put-back .0))
-          ∙ sym (listed-split (shapeOf m r) x js)
+          ∙ sym (listed-split sh x js)
         where
           e : Entry
-          e = split (shapeOf m r) x
+          e = split sh x
 
-          started : listed x (listOf m r start) ≡ holds e (entries (wordsOf start))
+          started : listed x (listOf sh start) ≡ holds e (entries (wordsOf start))
           started = listed-here (t .whole) x lt
 
-          old : holds e (f .put) ≡ false → listed x (w .given) ≡ true → listed x (listOf m r start) ≡ true
+          old : holds e (f .put) ≡ false → listed x (w .given) ≡ true → listed x (listOf sh start) ≡ true
           old p g =
               started
               ∙ or-absent
@@ -351,72 +351,72 @@ module _ {m r : ℕ} {start : List ℕ} {w : World} (t : PlainTable m r start) (
               (p g s : Bool) →
               holds e (f .put) ≡ p →
               listed x (w .given) ≡ g →
-              listed x (listOf m r start) ≡ s →
-              (listed x (w .given) && not (listed x (listOf m r start))) ≡ holds e (f .put)
+              listed x (listOf sh start) ≡ s →
+              (listed x (w .given) && not (listed x (listOf sh start))) ≡ holds e (f .put)
           go true g s k l n =
               ap₂
               (λ (a b : Bool). a && not b)
-              (listed-split (shapeOf m r) x (w .given) ∙ f .put-given e k)
+              (listed-split sh x (w .given) ∙ f .put-given e k)
               (started ∙ f .put-new e k)
               ∙ sym k
           go false true s k l n = ap₂ (λ (a b : Bool). a && not b) l (old k l) ∙ sym k
-          go false false s k l n = ap (λ (a : Bool). a && not (listed x (listOf m r start))) l ∙ sym k
+          go false false s k l n = ap (λ (a : Bool). a && not (listed x (listOf sh start))) l ∙ sym k
 
-      module _ (ks : List ℕ) (h : InKeys (shapeOf m r) ks)
+      module _ (ks : List ℕ) (h : InKeys sh ks)
           (new :
-          (x : ℕ) → x < keys (shapeOf m r) → listed x ks ≡ (listed x (w .given) && not (listed x (listOf m r start))))
+          (x : ℕ) → x < keys sh → listed x ks ≡ (listed x (w .given) && not (listed x (listOf sh start))))
         where
           -- the starting keys and the new ones are no more than the starting keys and the given ones
-          new-inside : Inside (ascend (entriesOf (shapeOf m r) (listOf m r start ++ ks))) us
+          new-inside : Inside (ascend (entriesOf sh (listOf sh start ++ ks))) us
           unfolding us list
           new-inside x k =
               go
               (held-key
-              (shapeOf m r)
-              (listOf m r start ++ ks)
+              sh
+              (listOf sh start ++ ks)
               x
               low
-              (all-both (shapeOf m r) (listOf m r start) ks in-list h)
+              (all-both sh (listOf sh start) ks in-list h)
               plain)
             where
-              plain : holds x (entriesOf (shapeOf m r) (listOf m r start ++ ks)) ≡ true
-              plain = sym (holds-ascend x (entriesOf (shapeOf m r) (listOf m r start ++ ks))) ∙ k
+              plain : holds x (entriesOf sh (listOf sh start ++ ks)) ≡ true
+              plain = sym (holds-ascend x (entriesOf sh (listOf sh start ++ ks))) ∙ k
 
               parted :
-                  (holds x (entriesOf (shapeOf m r) (listOf m r start)) || holds x (entriesOf (shapeOf m r) ks)) ≡ true
+                  (holds x (entriesOf sh (listOf sh start)) || holds x (entriesOf sh ks)) ≡ true
               parted =
-                  sym (holds-append x (entriesOf (shapeOf m r) (listOf m r start)) (entriesOf (shapeOf m r) ks))
-                  ∙ ap (holds x) (sym (map-both (shapeOf m r) (listOf m r start) ks))
+                  sym (holds-append x (entriesOf sh (listOf sh start)) (entriesOf sh ks))
+                  ∙ ap (holds x) (sym (map-both sh (listOf sh start) ks))
                   ∙ plain
 
               go :
-                  (split (shapeOf m r) (join (shapeOf m r) x) ≡ x) × (join (shapeOf m r) x < keys (shapeOf m r)) →
+                  (split sh (join sh x) ≡ x) × (join sh x < keys sh) →
                   holds x us ≡ true
-              go (back, lt) = either (holds x (entriesOf (shapeOf m r) (listOf m r start))) refl parted
+              go (back, lt) = either (holds x (entriesOf sh (listOf sh start))) refl parted
                 where
                   key : ℕ
-                  key = join (shapeOf m r) x
+                  key = join sh x
 
                   either :
                       (b : Bool) →
-                      holds x (entriesOf (shapeOf m r) (listOf m r start)) ≡ b →
-                      (b || holds x (entriesOf (shapeOf m r) ks)) ≡ true → holds x us ≡ true
+                      holds x (entriesOf sh (listOf sh start)) ≡ b →
+                      (b || holds x (entriesOf sh ks)) ≡ true → holds x us ≡ true
                   either true y z =
-                      space .starts x (ap (holds x) (sym (split-keys (shapeOf m r) (in-shape (t .whole)))) ∙ y)
+                      space .starts x (ap (holds x) (sym (split-keys sh (in-shape (t .whole)))) ∙ y)
                   either false y z =
                       space .gives
                       x
-                      (ap (λ (e : Entry). holds e (entriesOf (shapeOf m r) (w .given))) (sym back)
-                      ∙ sym (listed-split (shapeOf m r) key (w .given))
+                      (ap (λ (e : Entry). holds e (entriesOf sh (w .given))) (sym back)
+                      ∙ sym (listed-split sh key (w .given))
                       ∙ and-left
                       (listed key (w .given))
                       _
                       (sym (new key lt)
-                      ∙ listed-split (shapeOf m r) key ks
-                      ∙ ap (λ (e : Entry). holds e (entriesOf (shapeOf m r) ks)) back
+                      ∙ listed-split sh key ks
+                      ∙ ap (λ (e : Entry). holds e (entriesOf sh ks)) back
                       ∙ z))
 
-          new-few : distinct (shapeOf m r) (listOf m r start ++ ks) ≤ homes (shapeOf m r)
+          new-few : distinct sh (listOf sh start ++ ks) ≤ homes sh
           unfolding distinct us
           new-few =
               omega (
@@ -425,36 +425,36 @@ module _ {m r : ℕ} {start : List ℕ} {w : World} (t : PlainTable m r start) (
                     us
                     low
                     (space .room .asc)
-                    (ascend (entriesOf (shapeOf m r) (listOf m r start ++ ks)))
+                    (ascend (entriesOf sh (listOf sh start ++ ks)))
                     4096
                     (ascend-asc
                     low
                     (all-within
-                    (shapeOf m r)
-                    (listOf m r start ++ ks)
-                    (all-both (shapeOf m r) (listOf m r start) ks in-list h)))
+                    sh
+                    (listOf sh start ++ ks)
+                    (all-both sh (listOf sh start) ks in-list h)))
                     new-inside,
                 few,
               )
 
-          pub rest-bytes : putAll m r start ks ≡ w .table
+          pub rest-bytes : putAll sh start ks ≡ w .table
           rest-bytes =
               puts-any-order ks js t h (put-back .1) (λ x lt. new x lt ∙ new-keys x lt) new-few
               ∙ same-bytes
-              (putAll m r start js)
+              (putAll sh start js)
               (w .table)
-              (places (shapeOf m r))
-              (good-table (shapeOf m r) (length (putAll m r start js)) (done .0 .whole .good) .1)
+              (places sh)
+              (good-table sh (length (putAll sh start js)) (done .0 .whole .good) .1)
               even
               (done .0 .whole .small)
               (f .small)
               (done .1
-              ∙ ap (puts (shapeOf m r) (wordsOf start)) (put-back .0)
+              ∙ ap (puts sh (wordsOf start)) (put-back .0)
               ∙ sym (f .chain)
               ∙ sym words-laid)
             where
               done :
-                  PlainTable m r (putAll m r start js)
-                  × (wordsOf (putAll m r start js)
-                  ≡ puts (shapeOf m r) (wordsOf start) (entriesOf (shapeOf m r) js))
+                  PlainTable sh (putAll sh start js)
+                  × (wordsOf (putAll sh start js)
+                  ≡ puts sh (wordsOf start) (entriesOf sh js))
               done = put-all-plain js t (put-back .1)

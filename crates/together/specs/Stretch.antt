@@ -14,7 +14,7 @@ use Rattle.rules.specs.Word.{Word}
 use Rattle.rules.specs.Shape.{remainders, places}
 use Rattle.rules.specs.Entry.{Entry}
 use Rattle.rules.specs.Table.{at, occupiedPlaces}
-use Rattle.rules.specs.Give.{taskAt}
+use Rattle.rules.specs.Record.{taskAt}
 use Rattle.theory.specs.Run.{unlock}
 use Rattle.together.specs.Frames.{Within, occupied-same}
 use Rattle.together.specs.Invariant.{Looked, Owns, by-left, by-right, Apart, Unfinished, Inv, InPhase}

@@ -16,7 +16,7 @@ use Rattle.rules.specs.declared.Task.{Task}
 use Rattle.rules.specs.Word.{Word}
 use Rattle.rules.specs.Entry.{Entry}
 use Rattle.rules.specs.Table.{at, occupiedPlaces}
-use Rattle.rules.specs.Give.{noTask, taskAt}
+use Rattle.rules.specs.Record.{noTask, taskAt}
 use Rattle.theory.specs.Run.{unlock}
 use Rattle.theory.specs.Building.{State}
 use Rattle.together.specs.Invariant.{InPhase, Owns, Apart, Unfinished, Inv}

@@ -19,7 +19,7 @@ use Rattle.rules.specs.Entry.{Entry, split}
 use Rattle.rules.specs.Table.{at, occupiedPlaces}
 use Rattle.rules.specs.Lay.{holds, insert}
 use Rattle.rules.specs.Record.{homePlaceOf, within, atRest, toPhase, withLeft, withRight}
-use Rattle.rules.specs.Give.{taskAt}
+use Rattle.rules.specs.Record.{taskAt}
 use Rattle.rules.specs.Phase as phase
 use Rattle.rules.specs.Phase.{Step, to}
 use Rattle.rules.specs.Step.{ofPhase, steps, orUnsound, stepOf}

@@ -39,11 +39,12 @@ use denote.Triple.Statement.{Contract, Triple}
 use denote.Triple.Call.{calls-at}
 use denote.Triple.Table.{entered, cited}
 use denote.Triple.Walked.{says, Stays, stay-slice, walkOf, goes-slice, ends-at, walked, walk-meets}
+use Rattle.rules.specs.Shape.{shapeOf}
 use Rattle.rules.specs.declared.Task.{Task}
 use Rattle.rules.specs.declared.Done.{Done}
 use Rattle.rules.specs.Answer.{doneSays, leaves}
 use Rattle.rules.specs.Give as spec
-use Rattle.rules.specs.Give.{noTask, taskAt}
+use Rattle.rules.specs.Record.{noTask, taskAt}
 use Rattle.rules.proofs.Task.{the-row as task}
 use Rattle.rules.proofs.Done.{the-row as done-row}
 use Rattle.task_records.specs.Calls.{giveNone, giveAt, give-none, give-stores}
@@ -106,7 +107,7 @@ module _ {M : Type 1} (𝓤 : URA M) (H : Heap 𝓤) (A : Atoms 𝓤) (W : Given
   Post = walkOf 𝓤 H A give.ended stayed (give.clauses 𝓤 H A mem run) .post (((κ, tt), (q, tt), tt, a, vals), tt)
 
   exits : (d : Done) (v : Val) (ts : List Task) → Is done-row d (v ∷ []) → length ts ≡ n
-      → leaves (doneSays d) ts ≡ spec.give m r key ys i → ent 𝓤 (⋆ 𝓤 H A (lent-at 𝓤 κ q b o γ ts [])) (Post v)
+      → leaves (doneSays d) ts ≡ spec.give (shapeOf m r) key ys i → ent 𝓤 (⋆ 𝓤 H A (lent-at 𝓤 κ q b o γ ts [])) (Post v)
   exits d v ts is l e =
       qed W (lent-at 𝓤 κ q b o γ ts []) ∵
       suffices ! _
@@ -174,7 +175,7 @@ module _ {M : Type 1} (𝓤 : URA M) (H : Heap 𝓤) (A : Atoms 𝓤) (W : Given
         (and-then ! (held ! 29 refl) (and-then ! (held ! 27 refl)
         (and-then ! (held ! 25 refl) (and-then ! (held ! 19 refl) (and-then ! (held ! 9 refl) (no-more !))))))
         (λ v. answers ! tt at.ended (at.clauses 𝓤 H A mem run) to-at v (λ y _. leaves (doneSays (y .done)) (y .task)
-        ≡ giveAt m r key n t) (λ _ _. id⊢ 𝓤 _) (λ y _ e is′. drop ! $ drop ! $
+        ≡ giveAt (shapeOf m r) key n t) (λ _ _. id⊢ 𝓤 _) (λ y _ e is′. drop ! $ drop ! $
         land ! (from ! (stop !)) (init ! 16 refl (after-typed 𝓤 H A W v y is′)) $
         rewrite ! 16 (λ (u : Val). ‵ (fat fullShare after-laws.mir l₇ 0 u)) (ap only (after-tells y _ is′)) refl $
         -- the record that came back is stored in its place, and the slice closed
@@ -193,18 +194,18 @@ module _ {M : Type 1} (𝓤 : URA M) (H : Heap 𝓤) (A : Atoms 𝓤) (W : Given
         forget ! 13 refl $ forget ! 15 refl $ forget ! 17 refl $ forget ! 19 refl $ forget ! 21 refl $
         forget ! 23 refl $ forget ! 25 refl $ forget ! 27 refl $ move ! (entries 3 26) $ frees-all ! $
         by ! (exits (y .done) _ (set ys i (y .task)) (after-done y _ is′) (length-set ys i (y .task))
-        (give-stores m r key ys i near _ _ e))))))
+        (give-stores (shapeOf m r) key ys i near _ _ e))))))
         (λ test. let far : n ≤ i = nltb→le i n test in
         -- no record has the task number
         use0 W (raw (None 𝓤 H A mem run .pre to-none)) goes-to-none $
         calls-at ! fm (None 𝓤 H A mem run) known-none to-none
         (and-then ! (held ! 23 refl) (and-then ! (held ! 21 refl) (and-then ! (held ! 19 refl) (no-more !))))
-        (λ v. answers ! tt none.ended (none.clauses 𝓤 H A mem run) to-none v (λ d _. doneSays d ≡ giveNone m r key)
+        (λ v. answers ! tt none.ended (none.clauses 𝓤 H A mem run) to-none v (λ d _. doneSays d ≡ giveNone (shapeOf m r) key)
         (λ _ _. id⊢ 𝓤 _) (λ d _ e is. drop ! $ drop ! $
         land ! (from ! (stop !)) (init ! 24 refl (done-typed 𝓤 H A W v d is)) $ returns ! (look ! 24 refl) $
         forget ! 8 refl $ forget ! 12 refl $ forget ! 14 refl $ forget ! 16 refl $ forget ! 18 refl $
         forget ! 20 refl $ forget ! 22 refl $ forget ! 24 refl $ frees-all ! $
-        by ! (exits d v ys is refl (give-none m r key ys i far _ e))))))))))))))))))
+        by ! (exits d v ys is refl (give-none (shapeOf m r) key ys i far _ e))))))))))))))))))
 
 give-meets : {M : Type 1} (𝓤 : URA M) (H : Heap 𝓤) (A : Atoms 𝓤) → Given 𝓤 H A → (mem : Memory → SProp 𝓤)
     (run : Routine → Fun 𝓤) (𝓣 : Tables 𝓤 H) → Triple 𝓤 (𝓣 .C #at) (At 𝓤 H A mem run)

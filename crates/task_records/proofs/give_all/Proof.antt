@@ -41,6 +41,7 @@ use denote.Triple.Table.{entered, cited}
 use denote.Triple.Walked.{says, Stays, stay-none, walkOf, goes-none, ends-at, walked, walk-meets}
 use denote.Exit.{yes}
 use borrow.Table.Elements.{length-take-le}
+use Rattle.rules.specs.Shape.{shapeOf}
 use Rattle.rules.specs.declared.Task.{Task}
 use Rattle.rules.specs.Answer.{doneSays, leaves}
 use Rattle.rules.specs.Give as spec
@@ -92,7 +93,7 @@ module _ {M : Type 1} (𝓤 : URA M) (H : Heap 𝓤) (A : Atoms 𝓤) (W : Given
   abbrev Post : Val → SProp 𝓤
   Post = walkOf 𝓤 H A all.ended stayed (all.clauses 𝓤 H A mem run) .post ((tt, tt, tt, a, vals), tt)
 
-  exits : (x : Kept) (v : Val) → Is kept x (v ∷ []) → leaves (doneSays (x .done)) (x .tasks) ≡ giveAll m r key ys n i
+  exits : (x : Kept) (v : Val) → Is kept x (v ∷ []) → leaves (doneSays (x .done)) (x .tasks) ≡ giveAll (shapeOf m r) key ys n i
       → ent 𝓤 (emp 𝓤) (Post v)
   exits x v is e =
       qed W [] ∵
@@ -181,7 +182,7 @@ module _ {M : Type 1} (𝓤 : URA M) (H : Heap 𝓤) (A : Atoms 𝓤) (W : Given
         (and-then ! (held ! 26 refl) (and-then ! (held ! 24 refl)
         (and-then ! (held ! 22 refl) (and-then ! (held ! 5 refl) (and-then ! (held ! 16 refl) (no-more !))))))
         (λ v. answers ! tt give.ended (give.clauses 𝓤 H A mem run) (to-give ν l₇ γ) v
-        (λ d ws. leaves (doneSays d) (ws .1 .1 .1 .0) ≡ spec.give m r key (take n ys) i) (λ _ _. id⊢ 𝓤 _)
+        (λ d ws. leaves (doneSays d) (ws .1 .1 .1 .0) ≡ spec.give (shapeOf m r) key (take n ys) i) (λ _ _. id⊢ 𝓤 _)
         (λ d ws e is.
         let us : List Task = ws .1 .1 .1 .0 ++ drop-list n ys in
         -- the lifetime is ended, and the records come back
@@ -199,12 +200,12 @@ module _ {M : Type 1} (𝓤 : URA M) (H : Heap 𝓤) (A : Atoms 𝓤) (W : Given
         forget ! 14 refl $ forget ! 16 refl $ forget ! 18 refl $ forget ! 20 refl $ forget ! 22 refl $
         forget ! 24 refl $ forget ! 26 refl $ frees-all ! $ keep ! [] $
         by ! (exits (record { tasks = us; done = d }) _ (kept-is us d w v here is)
-        (give-few m r key ys n i few _ _ e))))))))
+        (give-few (shapeOf m r) key ys n i few _ _ e))))))))
         (λ test. let many : 16 < n = nleb→lt n 16 test in
         use0 W (raw (None 𝓤 H A mem run .pre to-none)) goes-to-none $
         calls-at ! fm (None 𝓤 H A mem run) known-none to-none
         (and-then ! (held ! 25 refl) (and-then ! (held ! 23 refl) (and-then ! (held ! 21 refl) (no-more !))))
-        (λ v. answers ! tt none.ended (none.clauses 𝓤 H A mem run) to-none v (λ d _. doneSays d ≡ giveNone m r key)
+        (λ v. answers ! tt none.ended (none.clauses 𝓤 H A mem run) to-none v (λ d _. doneSays d ≡ giveNone (shapeOf m r) key)
         (λ _ _. id⊢ 𝓤 _) (λ d _ e is. drop ! $ drop ! $
         land ! (from ! (stop !)) (init ! 8 refl (done-typed 𝓤 H A W v d is)) $
         sets ! (agg ! (and-then ! (held ! 18 refl) (and-then ! (held ! 8 refl) (no-more !)))) 26 refl
@@ -212,7 +213,7 @@ module _ {M : Type 1} (𝓤 : URA M) (H : Heap 𝓤) (A : Atoms 𝓤) (W : Given
         forget ! 14 refl $ forget ! 16 refl $ forget ! 18 refl $ forget ! 20 refl $ forget ! 22 refl $
         forget ! 24 refl $ forget ! 26 refl $ frees-all ! $
         by ! (exits (record { tasks = ys; done = d }) _ (kept-is ys d _ v ys-is is)
-        (give-many m r key ys n i many _ e)))))))))))))))))))
+        (give-many (shapeOf m r) key ys n i many _ e)))))))))))))))))))
 
 give-all-meets : {M : Type 1} (𝓤 : URA M) (H : Heap 𝓤) (A : Atoms 𝓤) → Given 𝓤 H A → (mem : Memory → SProp 𝓤)
     (run : Routine → Fun 𝓤) (𝓣 : Tables 𝓤 H) → Triple 𝓤 (𝓣 .C #give) (Give 𝓤 H A mem run)

@@ -41,11 +41,12 @@ use denote.Triple.Call.{calls-at}
 use denote.Triple.Table.{entered, cited}
 use denote.Triple.Walked.{says, Stays, stay-slice, gave-slice, walkOf, ends-at, walked, goes-slice, goes-gave-slice}
 use denote.Triple.Walked.{walk-meets}
+use Rattle.rules.specs.Shape.{shapeOf}
 use Rattle.rules.specs.declared.Task.{Task}
 use Rattle.rules.specs.declared.Done.{Done}
 use Rattle.rules.specs.Answer.{doneSays, leaves}
 use Rattle.rules.specs.Step as spec
-use Rattle.rules.specs.Give.{noTask, taskAt}
+use Rattle.rules.specs.Record.{noTask, taskAt}
 use Rattle.rules.proofs.Task.{the-row as task}
 use Rattle.rules.proofs.Done.{the-row as done-row}
 use Rattle.task_records.specs.Calls.{stepNone, stepAt, step-none, step-stores}
@@ -131,7 +132,7 @@ module _ {M : Type 1} (𝓤 : URA M) (H : Heap 𝓤) (A : Atoms 𝓤) (W : Given
   Ends bs ts = lent-at 𝓤 κ q b o γ ts (‵ (finally u8 γ₀ bs) ∷ ‵ (flft κ₀ q₀) ∷ [])
 
   exits : (d : Done) (v : Val) (bs : List ℕ) (ts : List Task) → Is done-row d (v ∷ []) → length bs ≡ length bytes
-      → length ts ≡ n → leaves (doneSays d) (record { table = bs; tasks = ts }) ≡ spec.step m r bytes ys i
+      → length ts ≡ n → leaves (doneSays d) (record { table = bs; tasks = ts }) ≡ spec.step (shapeOf m r) bytes ys i
       → ent 𝓤 (⋆ 𝓤 H A (Ends bs ts)) (Post v)
   exits d v bs ts is l₀ l e =
       qed W (Ends bs ts) ∵
@@ -220,7 +221,7 @@ module _ {M : Type 1} (𝓤 : URA M) (H : Heap 𝓤) (A : Atoms 𝓤) (W : Given
         (and-then ! (held ! 35 refl) (and-then ! (held ! 33 refl)
         (and-then ! (held ! 17 refl) (and-then ! (held ! 25 refl) (and-then ! (held ! 11 refl) (no-more !))))))
         (λ v. answers ! tt at.ended (at.clauses 𝓤 H A mem run) to-at v
-        (λ y ws. leaves (doneSays (y .done)) (record { table = ws .1 .1 .0; task = y .task }) ≡ stepAt m r bytes n t)
+        (λ y ws. leaves (doneSays (y .done)) (record { table = ws .1 .1 .0; task = y .task }) ≡ stepAt (shapeOf m r) bytes n t)
         (λ _ _. id⊢ 𝓤 _) (λ y ws e is′.
         -- the table's token, and its last bytes with their count, are put behind the others
         use1 W (‵ (flft κ₀ q₀) ⊛ ‵ ftrue) (id⊢ 𝓤 _) $ split ! $ move ! (2 ∷ []) $ fsplit ! $ drop ! $ fsplit ! $
@@ -245,7 +246,7 @@ module _ {M : Type 1} (𝓤 : URA M) (H : Heap 𝓤) (A : Atoms 𝓤) (W : Given
         forget ! 25 refl $ forget ! 27 refl $ forget ! 29 refl $ forget ! 31 refl $ forget ! 33 refl $
         move ! (entries 3 32) $ frees-all ! $ keep ! (0 ∷ 1 ∷ 2 ∷ 3 ∷ 5 ∷ []) $
         by ! (exits (y .done) _ (ws .1 .1 .0) (set ys i (y .task)) (after-done y _ is′) same
-        (length-set ys i (y .task)) (step-stores m r bytes ys i near _ _ _ e)))))))
+        (length-set ys i (y .task)) (step-stores (shapeOf m r) bytes ys i near _ _ _ e)))))))
         (λ test. let far : n ≤ i = nltb→le i n test in
         -- no record has the task number
         sets ! (of-opd ! (field-of ! 24 1 refl refl refl)) 0 refl (tt, record { fits = room₀ .0 }) $
@@ -253,7 +254,7 @@ module _ {M : Type 1} (𝓤 : URA M) (H : Heap 𝓤) (A : Atoms 𝓤) (W : Given
         calls-at ! fm (None 𝓤 H A mem run) known-none to-none
         (and-then ! (held ! 29 refl) (and-then ! (held ! 27 refl) (and-then ! (held ! 1 refl) (no-more !))))
         (λ v. answers ! tt none.ended (none.clauses 𝓤 H A mem run) to-none v (λ d _. doneSays d
-        ≡ stepNone m r (length bytes)) (λ _ _. id⊢ 𝓤 _) (λ d _ e is. drop ! $ drop ! $
+        ≡ stepNone (shapeOf m r) (length bytes)) (λ _ _. id⊢ 𝓤 _) (λ d _ e is. drop ! $ drop ! $
         land ! (from ! (stop !)) (init ! 30 refl (done-typed 𝓤 H A W v d is)) $ returns ! (look ! 30 refl) $
         forget ! 0 refl $ forget ! 14 refl $ forget ! 18 refl $ forget ! 20 refl $ forget ! 22 refl $
         forget ! 24 refl $ forget ! 26 refl $ forget ! 28 refl $ forget ! 30 refl $ frees-all ! $
@@ -263,7 +264,7 @@ module _ {M : Type 1} (𝓤 : URA M) (H : Heap 𝓤) (A : Atoms 𝓤) (W : Given
         (W .names .obs-res γ₀ (codedHoleys u8 .code (heres u8 bytes))) $
         use1 W (‵ (finally u8 γ₀ bytes)) (res-finally 𝓤 H A W (named 0) κ₀ u8 γ₀ bytes) $
         keep ! (2 ∷ 3 ∷ 4 ∷ 0 ∷ 5 ∷ []) $
-        by ! (exits d v bytes ys is refl refl (step-none m r bytes ys i far _ e)))))))))))))))))))))
+        by ! (exits d v bytes ys is refl refl (step-none (shapeOf m r) bytes ys i far _ e)))))))))))))))))))))
 
 step-meets : {M : Type 1} (𝓤 : URA M) (H : Heap 𝓤) (A : Atoms 𝓤) → Given 𝓤 H A → (mem : Memory → SProp 𝓤)
     (run : Routine → Fun 𝓤) (𝓣 : Tables 𝓤 H) → Triple 𝓤 (𝓣 .C #at) (At 𝓤 H A mem run)

@@ -44,6 +44,7 @@ use denote.Triple.Walked.{says, Stays, stay-none, gave-slice, walkOf, goes-none,
 use denote.Triple.Walked.{walk-meets}
 use denote.Exit.{yes}
 use borrow.Table.Elements.{length-take-le}
+use Rattle.rules.specs.Shape.{shapeOf}
 use Rattle.rules.specs.declared.Task.{Task}
 use Rattle.rules.specs.Answer.{doneSays, leaves}
 use Rattle.rules.specs.Step as spec
@@ -121,7 +122,7 @@ module _ {M : Type 1} (𝓤 : URA M) (H : Heap 𝓤) (A : Atoms 𝓤) (W : Given
 
   -- what is had at the end: [the table's last bytes; its token]
   exits : (y : Kept) (v : Val) (bs : List ℕ) → Is kept y (v ∷ []) → length bs ≡ length bytes
-      → leaves (doneSays (y .done)) (record { table = bs; tasks = y .tasks }) ≡ stepAll m r bytes ys n i
+      → leaves (doneSays (y .done)) (record { table = bs; tasks = y .tasks }) ≡ stepAll (shapeOf m r) bytes ys n i
       → ent 𝓤 (⋆ 𝓤 H A (‵ (finally u8 γ₀ bs) ∷ ‵ (flft κ q) ∷ [])) (Post v)
   exits y v bs is l e =
       qed W (‵ (finally u8 γ₀ bs) ∷ ‵ (flft κ q) ∷ []) ∵
@@ -221,7 +222,7 @@ module _ {M : Type 1} (𝓤 : URA M) (H : Heap 𝓤) (A : Atoms 𝓤) (W : Given
         (and-then ! (held ! 11 refl) (and-then ! (held ! 7 refl) (and-then ! (held ! 22 refl) (no-more !))))))
         (λ v. answers ! tt step.ended (step.clauses 𝓤 H A mem run) (to-step ν l₇ γ) v
         (λ d ws. leaves (doneSays d) (record { table = ws .1 .1 .0; tasks = ws .1 .1 .1 .0 })
-        ≡ spec.step m r bytes (take n ys) i) (λ _ _. id⊢ 𝓤 _) (λ d ws e is.
+        ≡ spec.step (shapeOf m r) bytes (take n ys) i) (λ _ _. id⊢ 𝓤 _) (λ d ws e is.
         let us : List Task = ws .1 .1 .1 .0 ++ drop-list n ys in
         -- the lifetime is ended, and the records come back
         use1 W (‵ (flft κ q) ⊛ (‵ (flft (ν ∷ []) fullShare) ⊛ ‵ ftrue)) (id⊢ 𝓤 _) $ split ! $ move ! (1 ∷ []) $
@@ -239,14 +240,14 @@ module _ {M : Type 1} (𝓤 : URA M) (H : Heap 𝓤) (A : Atoms 𝓤) (W : Given
         forget ! 16 refl $ forget ! 18 refl $ forget ! 20 refl $ forget ! 22 refl $ forget ! 24 refl $
         forget ! 26 refl $ forget ! 28 refl $ forget ! 30 refl $ forget ! 32 refl $ frees-all ! $
         keep ! (2 ∷ 4 ∷ []) $ by ! (exits (record { tasks = us; done = d }) _ (ws .1 .1 .0)
-        (kept-is us d w v here is) same (step-few m r bytes ys n i few _ _ _ e)))))))))
+        (kept-is us d w v here is) same (step-few (shapeOf m r) bytes ys n i few _ _ _ e)))))))))
         (λ test. let many : 16 < n = nleb→lt n 16 test in
         sets ! (of-opd ! (field-of ! 26 1 refl refl refl)) 0 refl (tt, record { fits = room .0 }) $
         use0 W (raw (None 𝓤 H A mem run .pre to-none)) goes-to-none $
         calls-at ! fm (None 𝓤 H A mem run) known-none to-none
         (and-then ! (held ! 31 refl) (and-then ! (held ! 29 refl) (and-then ! (held ! 1 refl) (no-more !))))
         (λ v. answers ! tt none.ended (none.clauses 𝓤 H A mem run) to-none v (λ d _. doneSays d
-        ≡ stepNone m r (length bytes)) (λ _ _. id⊢ 𝓤 _) (λ d _ e is. drop ! $ drop ! $
+        ≡ stepNone (shapeOf m r) (length bytes)) (λ _ _. id⊢ 𝓤 _) (λ d _ e is. drop ! $ drop ! $
         land ! (from ! (stop !)) (init ! 14 refl (done-typed 𝓤 H A W v d is)) $
         sets ! (agg ! (and-then ! (held ! 24 refl) (and-then ! (held ! 14 refl) (no-more !)))) 32 refl
         (kept-typed ys d _ v ys-is is 𝓤 H A W) $ returns ! (look ! 32 refl) $ forget ! 0 refl $ forget ! 12 refl $
@@ -257,7 +258,7 @@ module _ {M : Type 1} (𝓤 : URA M) (H : Heap 𝓤) (A : Atoms 𝓤) (W : Given
         (W .names .obs-res γ₀ (codedHoleys u8 .code (heres u8 bytes))) $
         use1 W (‵ (finally u8 γ₀ bytes)) (res-finally 𝓤 H A W (named 0) κ u8 γ₀ bytes) $ keep ! (0 ∷ 2 ∷ []) $
         by ! (exits (record { tasks = ys; done = d }) _ bytes (kept-is ys d _ v ys-is is) refl
-        (step-many m r bytes ys n i many _ e))))))))))))))))))))))
+        (step-many (shapeOf m r) bytes ys n i many _ e))))))))))))))))))))))
 
 step-all-meets : {M : Type 1} (𝓤 : URA M) (H : Heap 𝓤) (A : Atoms 𝓤) → Given 𝓤 H A → (mem : Memory → SProp 𝓤)
     (run : Routine → Fun 𝓤) (𝓣 : Tables 𝓤 H) → Triple 𝓤 (𝓣 .C #step) (Step 𝓤 H A mem run)
