@@ -1,5 +1,5 @@
 -- A whole day, line by line: `Fine`, what holds of a run at each stage. It holds at dawn, and every line keeps it
--- (`fine-lines`), so a run that has not ended has what Kept says (`day-kept`).
+-- (`fine-lines`), so a run that has not Ended has what Kept says (`day-kept`).
 -- Assumes nothing.
 use Prim.Native.Nat.{ℕ, _%_}
 use mathlib.Core.Path.{_≡_, refl, sym, _∙_, subst, subst₂}
@@ -9,13 +9,15 @@ use lib.ListN.{length, replicate}
 use lib.Dec.{eqb, leb}
 use Rattle.rules.specs.declared.Shape.{Shape}
 use Rattle.rules.specs.Lists.{all}
-use Rattle.rules.specs.Shape.{shapeOf}
 use Rattle.theory.specs.Dealt.{and-right}
 use Rattle.demands.specs.Terms.{InKeys}
+use Rattle.frame_rules.specs.declared.First.{First}
+use Rattle.frame_rules.specs.declared.Stage.{Stage}
+use Rattle.frame_rules.specs.declared.Stage.the-variants.{AtFirst, Among, Ended}
 use Rattle.frame_rules.specs.Digits.{isDigit, digitsOf}
-use Rattle.frame_rules.specs.Lines.{First, firstOf, goodFirst, keysOf, goodLine}
+use Rattle.frame_rules.specs.Lines.{firstOf, goodFirst, keysOf, goodLine}
 use Rattle.frame_rules.specs.Rounds.{Floor, allAnswered, play}
-use Rattle.frame_rules.specs.Frame.{Stage, atFirst, among, ended, Day, dawn, usedPart, withUsed, After, after, printed}
+use Rattle.frame_rules.specs.Frame.{Day, dawn, usedPart, withUsed, After, after, printed}
 use Rattle.frame_rules.specs.Frame.{error, firstLine, playedLine, frameLine, lineAt, lineIn}
 use Rattle.together.specs.Machine.{Said}
 use Rattle.frame_day.specs.Terms.{paired, Follows, dayAfter, history}
@@ -24,11 +26,11 @@ use Rattle.frame_day.specs.Moments.{play-follows}
 use Rattle.frame_day.specs.Zero.{in-limits}
 use Rattle.frame_day.specs.Kept.{Kept, zeros-kept, kept-line}
 
--- at the first line nothing has happened; of an ended run nothing is said
+-- at the first line nothing has happened; of an Ended run nothing is said
 abbrev Fine : Stage → List ℕ → List Said → Type 0
-Fine atFirst table past = (table ≡ replicate 32772 0) × (past ≡ [])
-Fine (among f) table past = Kept f table past
-Fine ended table past = Unit {0}
+Fine AtFirst table past = (table ≡ replicate 32772 0) × (past ≡ [])
+Fine (Among f) table past = Kept f table past
+Fine Ended table past = Unit {0}
 
 abbrev FineAfter : After → List Said → Type 0
 FineAfter a past = Fine (a .day .stage) (a .day .table) past
@@ -44,7 +46,7 @@ fine-first {table} {past} line zeros none = go (goodFirst line) refl
     go :
         (b : Bool) →
         goodFirst line ≡ b →
-        FineAfter (cond b (after (among (firstOf line)) table []) (after ended table error)) (past ++ [])
+        FineAfter (cond b (after (Among (firstOf line)) table []) (after Ended table error)) (past ++ [])
     go true e =
         subst₂
         (Kept (firstOf line))
@@ -61,8 +63,8 @@ good-keys sh line e = and-right (all isDigit line && eqb (length line % 8) 0 && 
 fine-played :
     {f : First} {table : List ℕ} {past : List Said} {ks : List ℕ} (p : Floor) →
     Kept f table past →
-    InKeys (shapeOf (f .m) (f .r)) ks →
-    Follows (f .m) (f .r) (f .tasks) (usedPart f table) ks p →
+    InKeys (f .shape) ks →
+    Follows f (usedPart f table) ks p →
     FineAfter (playedLine f table ks p) (past ++ playedHistory ks p)
 unfolding playedLine playedHistory
 fine-played {f} {table} {past} {ks} p k h run = go (allAnswered ks p) refl
@@ -74,7 +76,7 @@ fine-played {f} {table} {past} {ks} p k h run = go (allAnswered ks p) refl
         (b : Bool) →
         allAnswered ks p ≡ b →
         FineAfter
-        (cond b (after (among f) bytes (printed (digitsOf (p .answers)))) (after ended bytes error))
+        (cond b (after (Among f) bytes (printed (digitsOf (p .answers)))) (after Ended bytes error))
         (past ++ cond b (paired ks (p .answers)) [])
     go true e = kept-line k h run e
     go false e = tt
@@ -82,28 +84,28 @@ fine-played {f} {table} {past} {ks} p k h run = go (allAnswered ks p) refl
 -- the line's course, where the run has come so far
 pub course-of :
     {f : First} {table : List ℕ} {past : List Said} (k : Kept f table past) (ks : List ℕ) →
-    InKeys (shapeOf (f .m) (f .r)) ks →
-    Follows (f .m) (f .r) (f .tasks) (usedPart f table) ks (play (f .m) (f .r) (f .tasks) (usedPart f table) ks)
-course-of {f} k ks h = play-follows (f .tasks) ks (k .plain) (in-limits f (k .limits) .tasks-high) h
+    InKeys (f .shape) ks →
+    Follows f (usedPart f table) ks (play f (usedPart f table) ks)
+course-of {f} k ks h = play-follows f ks (k .plain) (in-limits f (k .limits) .tasks-high) h
 
 -- a line of keys, or one passed over
 fine-frame :
     {f : First} {table : List ℕ} {past : List Said} (line : List ℕ) →
     Kept f table past → FineAfter (frameLine f table line) (past ++ frameHistory f table line)
 unfolding frameLine frameHistory
-fine-frame {f} {table} {past} line k = go (goodLine (shapeOf (f .m) (f .r)) line) refl
+fine-frame {f} {table} {past} line k = go (goodLine (f .shape) line) refl
   where
     p : Floor
-    p = play (f .m) (f .r) (f .tasks) (usedPart f table) (keysOf line)
+    p = play f (usedPart f table) (keysOf line)
 
     go :
         (b : Bool) →
-        goodLine (shapeOf (f .m) (f .r)) line ≡ b →
+        goodLine (f .shape) line ≡ b →
         FineAfter
-        (cond b (playedLine f table (keysOf line) p) (after (among f) table error))
+        (cond b (playedLine f table (keysOf line) p) (after (Among f) table error))
         (past ++ cond b (playedHistory (keysOf line) p) [])
     go true e =
-        let h = good-keys (shapeOf (f .m) (f .r)) line e in
+        let h = good-keys (f .shape) line e in
         fine-played p k h (course-of k (keysOf line) h)
     go false e = subst (Kept f table) (sym (append-nil past)) k
 
@@ -111,9 +113,9 @@ fine-frame {f} {table} {past} line k = go (goodLine (shapeOf (f .m) (f .r)) line
 fine-at :
     (stage : Stage) (table : List ℕ) (past : List Said) (line : List ℕ) →
     Fine stage table past → FineAfter (lineAt stage table line) (past ++ historyAt stage table line)
-fine-at atFirst table past line fine = fine-first line (fine .0) (fine .1)
-fine-at (among f) table past line fine = fine-frame line fine
-fine-at ended table past line fine = tt
+fine-at AtFirst table past line fine = fine-first line (fine .0) (fine .1)
+fine-at (Among f) table past line fine = fine-frame line fine
+fine-at Ended table past line fine = tt
 
 -- ---- any number of lines
 fine-lines :
@@ -129,10 +131,10 @@ fine-lines d past (line ∷ lines) fine =
     (append-assoc past (lineHistory d line) (history next lines))
     (fine-lines next (past ++ lineHistory d line) lines (fine-at (d .stage) (d .table) past line fine))
 
--- ---- from dawn, as long as the run has not ended
+-- ---- from dawn, as long as the run has not Ended
 pub day-kept :
     (lines : List (List ℕ)) (f : First) →
-    dayAfter dawn lines .stage ≡ among f → Kept f (dayAfter dawn lines .table) (history dawn lines)
+    dayAfter dawn lines .stage ≡ Among f → Kept f (dayAfter dawn lines .table) (history dawn lines)
 unfolding dawn
 day-kept lines f on =
     subst

@@ -1,4 +1,4 @@
--- What holds of a run among its lines, with its history so far: `Kept`. The zero table begins so (`zeros-kept`), and a
+-- What holds of a run Among its lines, with its history so far: `Kept`. The zero table begins so (`zeros-kept`), and a
 -- line whose keys are all answered keeps it (`kept-line`). Where there was room, the table is the build of its keys.
 -- Assumes nothing.
 use Prim.Native.Nat.{ℕ, _+_, _*_, _≤_}
@@ -13,7 +13,7 @@ use lib.Dec.{eqb, leb}
 use borrow.Author.Tests.{leb-true, leb-false}
 use Rattle.rules.specs.declared.Shape.{Shape}
 use Rattle.rules.specs.Lists.{bitOf, count, all, any}
-use Rattle.rules.specs.Shape.{shapeOf, homes, places, goodTable}
+use Rattle.rules.specs.Shape.{homes, places, goodTable}
 use Rattle.rules.specs.Answer.{says, leaves}
 use Rattle.rules.specs.Put.{put}
 use Rattle.rules.specs.Build.{build}
@@ -28,7 +28,9 @@ use Rattle.demands.specs.Tables.{low-of}
 use Rattle.demands.specs.Proof2.{ascending-list}
 use Rattle.demands.specs.Proof3.{all-both, ascending-keys}
 use Rattle.demands.specs.Demand2.{build-puts, build-any-order}
-use Rattle.frame_rules.specs.Lines.{First, inLimits}
+use Rattle.frame_rules.specs.declared.First.{First}
+use Rattle.frame_rules.specs.declared.Stage.the-variants.{Among}
+use Rattle.frame_rules.specs.Lines.{inLimits}
 use Rattle.frame_rules.specs.Rounds.{Floor, allAnswered}
 use Rattle.frame_rules.specs.Frame.{used, usedPart, withUsed}
 use Rattle.together.specs.Machine.{Said, timesInserted}
@@ -44,22 +46,22 @@ use Rattle.frame_day.specs.Zero.{InLimits, in-limits, zeros-plain, zeros
 pub record Roomed (f : First) (table : List ℕ) (past : List Said) : Type 0 where
   pub none-full : All (λ (s : Said). s .answer ≢ 3) past
   pub every-listed :
-      (x : ℕ) → listed x (keysIn past) ≡ true → listed x (listOf (f .m) (f .r) (usedPart f table)) ≡ true
-  pub bytes : putAll (f .m) (f .r) (replicate (used f) 0) (insertedIn past) ≡ usedPart f table
+      (x : ℕ) → listed x (keysIn past) ≡ true → listed x (listOf (f .shape) (usedPart f table)) ≡ true
+  pub bytes : putAll (f .shape) (replicate (used f) 0) (insertedIn past) ≡ usedPart f table
 
--- among the lines: the first line's numbers, the used part of the table, and the history so far
+-- Among the lines: the first line's numbers, the used part of the table, and the history so far
 pub record Kept (f : First) (table : List ℕ) (past : List Said) : Type 0 where
   pub limits : inLimits f ≡ true
-  pub plain : PlainTable (f .m) (f .r) (usedPart f table)
+  pub plain : PlainTable (f .shape) (usedPart f table)
   -- a key was answered inserted as often as the table lists it
-  pub tally : (x : ℕ) → timesInserted x past ≡ bitOf (listed x (listOf (f .m) (f .r) (usedPart f table)))
+  pub tally : (x : ℕ) → timesInserted x past ≡ bitOf (listed x (listOf (f .shape) (usedPart f table)))
   pub known : All (λ (s : Said). (1 ≤ s .answer) × (s .answer ≤ 3)) past
-  pub in-keys : InKeys (shapeOf (f .m) (f .r)) (keysIn past)
+  pub in-keys : InKeys (f .shape) (keysIn past)
   -- there was room if these keys, and any that are still to come, are few enough
   pub roomed :
       (us : List ℕ) →
-      InKeys (shapeOf (f .m) (f .r)) us →
-      distinct (shapeOf (f .m) (f .r)) us ≤ homes (shapeOf (f .m) (f .r)) →
+      InKeys (f .shape) us →
+      distinct (f .shape) us ≤ homes (f .shape) →
       ((x : ℕ) → listed x (keysIn past) ≡ true → listed x us ≡ true) → Roomed f table past
 
 -- ---- the zero table
@@ -68,11 +70,11 @@ unfolding used timesInserted count listed any all insertedIn putAll
 zeros-kept f h =
     record {
       limits = h;
-      plain = subst (PlainTable (f .m) (f .r)) (sym part) (zeros-plain (f .m) (f .r) (l .range));
+      plain = subst (PlainTable (f .shape)) (sym part) (zeros-plain (f .shape) (l .range));
       tally = λ x.
           sym
-          (ap (λ (bs : List ℕ). bitOf (listed x (listOf (f .m) (f .r) bs))) part
-          ∙ ap (λ (ks : List ℕ). bitOf (listed x ks)) (zeros-list (f .m) (f .r) (l .range)));
+          (ap (λ (bs : List ℕ). bitOf (listed x (listOf (f .shape) bs))) part
+          ∙ ap (λ (ks : List ℕ). bitOf (listed x ks)) (zeros-list (f .shape) (l .range)));
       known = every.none;
       in-keys = refl;
       roomed = λ us k few in-us.
@@ -86,7 +88,7 @@ zeros-kept f h =
     l : InLimits f
     l = in-limits f h
 
-    part : usedPart f (replicate 32772 0) ≡ replicate (2 * places (shapeOf (f .m) (f .r))) 0
+    part : usedPart f (replicate 32772 0) ≡ replicate (2 * places (f .shape)) 0
     part = used-zeros f l
 
 -- ---- a line of keys, all answered
@@ -96,10 +98,10 @@ all-append (every.both p ps) qs = every.both p (all-append ps qs)
 
 -- keys put one by one, in two parts
 puts-append :
-    (m r : ℕ) (bytes ks js : List ℕ) → putAll m r bytes (ks ++ js) ≡ putAll m r (putAll m r bytes ks) js
+    (sh : Shape) (bytes ks js : List ℕ) → putAll sh bytes (ks ++ js) ≡ putAll sh (putAll sh bytes ks) js
 unfolding putAll
-puts-append m r bytes [] js = refl
-puts-append m r bytes (k ∷ ks) js = puts-append m r (left-by (put m r bytes k)) ks js
+puts-append sh bytes [] js = refl
+puts-append sh bytes (k ∷ ks) js = puts-append sh (left-by (put sh bytes k)) ks js
 
 inserted-append : (past now : List Said) → insertedIn (past ++ now) ≡ insertedIn past ++ insertedIn now
 unfolding insertedIn
@@ -121,23 +123,23 @@ tally-of true false n e le new = omega (arith, leb-true 1 n (sym e))
 tally-of false false n e le new = omega (arith, leb-false 1 n (sym e))
 
 module _ {f : First} {table : List ℕ} {past : List Said} (k : Kept f table past) {ks : List ℕ} {p : Floor}
-    (h : InKeys (shapeOf (f .m) (f .r)) ks) (run : Follows (f .m) (f .r) (f .tasks) (usedPart f table) ks p)
+    (h : InKeys (f .shape) ks) (run : Follows f (usedPart f table) ks p)
     (complete : allAnswered ks p ≡ true)
   where
     abbrev sh : Shape
-    sh = shapeOf (f .m) (f .r)
+    sh = f .shape
 
     abbrev now : List Said
     now = paired ks (p .answers)
 
     abbrev before : List ℕ
-    before = listOf (f .m) (f .r) (usedPart f table)
+    before = listOf (f .shape) (usedPart f table)
 
     crew : f .tasks ≤ 16
     crew = in-limits f (k .limits) .tasks-high
 
-    line-after : PlainTable (f .m) (f .r) (p .table)
-    line-after = line-plain (k .plain) (f .tasks) crew run complete
+    line-after : PlainTable (f .shape) (p .table)
+    line-after = line-plain f (k .plain) crew run complete
 
     -- what the line left is the table's used part
     part : usedPart f (withUsed f (p .table) table) ≡ p .table
@@ -159,19 +161,19 @@ module _ {f : First} {table : List ℕ} {past : List Said} (k : Kept f table pas
     tally-after :
         (x : ℕ) →
         timesInserted x (past ++ now)
-        ≡ bitOf (listed x (listOf (f .m) (f .r) (usedPart f (withUsed f (p .table) table))))
+        ≡ bitOf (listed x (listOf (f .shape) (usedPart f (withUsed f (p .table) table))))
     unfolding timesInserted wasInserted
     tally-after x =
         count-append (λ (s : Said). eqb (s .key) x && eqb (s .answer) 2) past now
         ∙ ap (λ (c : ℕ). c + timesInserted x now) (k .tally x)
         ∙ tally-of
-        (listed x (listOf (f .m) (f .r) (p .table)))
-        (listed x (listOf (f .m) (f .r) (usedPart f table)))
+        (listed x (listOf (f .shape) (p .table)))
+        (listed x (listOf (f .shape) (usedPart f table)))
         (timesInserted x now)
-        (line-lists (k .plain) (f .tasks) crew run complete x)
-        (line-once (k .plain) (f .tasks) crew run complete x)
-        (line-new (k .plain) (f .tasks) crew run complete x)
-        ∙ ap (λ (bs : List ℕ). bitOf (listed x (listOf (f .m) (f .r) bs))) (sym part)
+        (line-lists f (k .plain) crew run complete x)
+        (line-once f (k .plain) crew run complete x)
+        (line-new f (k .plain) crew run complete x)
+        ∙ ap (λ (bs : List ℕ). bitOf (listed x (listOf (f .shape) bs))) (sym part)
 
     listed-both : (x : ℕ) → listed x (keysIn (past ++ now)) ≡ (listed x (keysIn past) || listed x ks)
     listed-both x = ap (listed x) keys-both ∙ listed-append x (keysIn past) ks
@@ -190,7 +192,7 @@ module _ {f : First} {table : List ℕ} {past : List Said} (k : Kept f table pas
             go true there z = of-past x (inserted-listed x past (omega (arith, k .tally x, ap bitOf there)))
             go false there z = in-us x (listed-both x ∙ or-right (listed x (keysIn past)) _ z)
 
-        -- the line fits, since all that it meets is among those keys
+        -- the line fits, since all that it meets is Among those keys
         fits : distinct sh (before ++ ks) ≤ homes sh
         fits =
             omega (
@@ -209,19 +211,19 @@ module _ {f : First} {table : List ℕ} {past : List Said} (k : Kept f table pas
         so-far : Roomed f table past
         so-far = k .roomed us in-range room of-past
 
-        still-listed : (x : ℕ) → listed x before ≡ true → listed x (listOf (f .m) (f .r) (p .table)) ≡ true
+        still-listed : (x : ℕ) → listed x before ≡ true → listed x (listOf (f .shape) (p .table)) ≡ true
         still-listed x e =
-            line-lists (k .plain) (f .tasks) crew run complete x ∙ or-left _ (wasInserted x now) e
+            line-lists f (k .plain) crew run complete x ∙ or-left _ (wasInserted x now) e
 
         every-after :
-            (x : ℕ) → listed x (keysIn (past ++ now)) ≡ true → listed x (listOf (f .m) (f .r) (p .table)) ≡ true
+            (x : ℕ) → listed x (keysIn (past ++ now)) ≡ true → listed x (listOf (f .shape) (p .table)) ≡ true
         every-after x e = go (listed x (keysIn past)) refl (sym (listed-both x) ∙ e)
           where
             go :
                 (b : Bool) → listed x (keysIn past) ≡ b → (b || listed x ks) ≡ true →
-                listed x (listOf (f .m) (f .r) (p .table)) ≡ true
+                listed x (listOf (f .shape) (p .table)) ≡ true
             go true there z = still-listed x (so-far .every-listed x there)
-            go false there z = line-every-listed (k .plain) (f .tasks) crew run complete h fits x z
+            go false there z = line-every-listed f (k .plain) crew run complete h fits x z
 
         roomed-after : Roomed f (withUsed f (p .table) table) (past ++ now)
         roomed-after =
@@ -229,14 +231,14 @@ module _ {f : First} {table : List ℕ} {past : List Said} (k : Kept f table pas
               none-full =
                   all-append
                   (so-far .none-full)
-                  (line-none-full (k .plain) (f .tasks) crew run complete h fits);
+                  (line-none-full f (k .plain) crew run complete h fits);
               every-listed = λ x there.
-                  ap (λ (bs : List ℕ). listed x (listOf (f .m) (f .r) bs)) part ∙ every-after x there;
+                  ap (λ (bs : List ℕ). listed x (listOf (f .shape) bs)) part ∙ every-after x there;
               bytes =
-                  ap (putAll (f .m) (f .r) (replicate (used f) 0)) (inserted-append past now)
-                  ∙ puts-append (f .m) (f .r) (replicate (used f) 0) (insertedIn past) (insertedIn now)
-                  ∙ ap (λ (bs : List ℕ). putAll (f .m) (f .r) bs (insertedIn now)) (so-far .bytes)
-                  ∙ line-bytes (k .plain) (f .tasks) crew run complete h fits
+                  ap (putAll (f .shape) (replicate (used f) 0)) (inserted-append past now)
+                  ∙ puts-append (f .shape) (replicate (used f) 0) (insertedIn past) (insertedIn now)
+                  ∙ ap (λ (bs : List ℕ). putAll (f .shape) bs (insertedIn now)) (so-far .bytes)
+                  ∙ line-bytes f (k .plain) crew run complete h fits
                   ∙ sym part;
             }
 
@@ -244,9 +246,9 @@ module _ {f : First} {table : List ℕ} {past : List Said} (k : Kept f table pas
     kept-line =
         record {
           limits = k .limits;
-          plain = subst (PlainTable (f .m) (f .r)) (sym part) line-after;
+          plain = subst (PlainTable (f .shape)) (sym part) line-after;
           tally = tally-after;
-          known = all-append (k .known) (line-known (k .plain) (f .tasks) crew run complete);
+          known = all-append (k .known) (line-known f (k .plain) crew run complete);
           in-keys =
               subst (λ (js : List ℕ). InKeys sh js) (sym keys-both) (all-both sh (keysIn past) ks (k .in-keys) h);
           roomed = roomed-after;
@@ -254,7 +256,7 @@ module _ {f : First} {table : List ℕ} {past : List Said} (k : Kept f table pas
 
 -- ---- with room for every accepted key
 module _ {f : First} {table : List ℕ} {past : List Said} (k : Kept f table past)
-    (few : distinct (shapeOf (f .m) (f .r)) (keysIn past) ≤ homes (shapeOf (f .m) (f .r)))
+    (few : distinct (f .shape) (keysIn past) ≤ homes (f .shape))
   where
     pub has-room : Roomed f table past
     has-room = k .roomed (keysIn past) (k .in-keys) few (λ x there. there)
@@ -276,13 +278,12 @@ module _ {f : First} {table : List ℕ} {past : List Said} (k : Kept f table pas
     -- the table is the build of the accepted keys
     pub kept-built :
         (bytes : List ℕ) →
-        goodTable (shapeOf (f .m) (f .r)) (length bytes) ≡ true →
-        build (f .m) (f .r) bytes (keysIn past) ≡ leaves (says 0) (usedPart f table)
+        goodTable (f .shape) (length bytes) ≡ true →
+        build (f .shape) bytes (keysIn past) ≡ leaves (says 0) (usedPart f table)
     unfolding used
     kept-built bytes good =
         build-any-order
-        (f .m)
-        (f .r)
+        (f .shape)
         bytes
         good
         (keysIn past)
@@ -290,24 +291,24 @@ module _ {f : First} {table : List ℕ} {past : List Said} (k : Kept f table pas
         (k .in-keys)
         inserted-keys
         (λ x lt. inserted-all x)
-        ∙ build-puts (f .m) (f .r) bytes good (insertedIn past) inserted-keys fewer
+        ∙ build-puts (f .shape) bytes good (insertedIn past) inserted-keys fewer
         ∙ ap
         (leaves (says 0))
-        (ap (λ (n : ℕ). putAll (f .m) (f .r) (replicate n 0) (insertedIn past)) long ∙ has-room .bytes)
+        (ap (λ (n : ℕ). putAll (f .shape) (replicate n 0) (insertedIn past)) long ∙ has-room .bytes)
       where
         long : length bytes ≡ used f
-        long = good-table (shapeOf (f .m) (f .r)) (length bytes) good .1
+        long = good-table (f .shape) (length bytes) good .1
 
-        inserted-keys : InKeys (shapeOf (f .m) (f .r)) (insertedIn past)
-        inserted-keys = inserted-in (shapeOf (f .m) (f .r)) past (k .in-keys)
+        inserted-keys : InKeys (f .shape) (insertedIn past)
+        inserted-keys = inserted-in (f .shape) past (k .in-keys)
 
-        fewer : distinct (shapeOf (f .m) (f .r)) (insertedIn past) ≤ homes (shapeOf (f .m) (f .r))
+        fewer : distinct (f .shape) (insertedIn past) ≤ homes (f .shape)
         fewer =
             omega (
               arith,
               few,
               distinct-fewer
-                  (shapeOf (f .m) (f .r))
+                  (f .shape)
                   (insertedIn past)
                   (keysIn past)
                   (low-of (k .plain .whole))

@@ -19,6 +19,7 @@ use Rattle.theory.specs.Every.{All}
 use Rattle.theory.specs.Dealt.{and-left, and-right, and-both}
 use Rattle.theory.specs.Keys.{listed}
 use Rattle.demands.specs.Terms.{PlainTable, listOf}
+use Rattle.frame_rules.specs.declared.First.{First}
 use Rattle.frame_rules.specs.Rounds.{Floor, allAnswered}
 use Rattle.together.specs.Machine.{Said, World, begin, course, quiet, timesGiven, timesSaid, timesInserted}
 use Rattle.together.specs.Demand3 as demand-3
@@ -59,33 +60,33 @@ times-given x [] = refl
 times-given x (k ∷ ks) = ap₂ (λ (b : Bool) (n : ℕ). bitOf b + n) (eqb-sym x k) (times-given x ks)
 
 -- ---- the line
-module _ {m r : ℕ} {bytes : List ℕ} (t : PlainTable m r bytes) (n : ℕ) (few : n ≤ 16) {ks : List ℕ} {f : Floor}
-    (run : Follows m r n bytes ks f) (complete : allAnswered ks f ≡ true)
+module _ (f : First) {bytes : List ℕ} (t : PlainTable (f .shape) bytes) (few : f .tasks ≤ 16) {ks : List ℕ} {floor : Floor}
+    (run : Follows f bytes ks floor) (complete : allAnswered ks floor ≡ true)
   where
     abbrev tasks : List Task
-    tasks = replicate n noTask
+    tasks = replicate (f .tasks) noTask
 
     pub no-more : length tasks ≤ 16
-    no-more = omega (arith, length-replicate n noTask)
+    no-more = omega (arith, length-replicate (f .tasks) noTask)
 
     abbrev pub after : World
-    after = course m r (begin bytes tasks) (run .actions)
+    after = course (f .shape) (begin bytes tasks) (run .actions)
 
     pub done : quiet (after .tasks) ≡ true
     unfolding quiet allAnswered
-    done = ap (all atRest) (run .same-tasks) ∙ and-right (eqb (f .taken) (length ks)) _ complete
+    done = ap (all atRest) (run .same-tasks) ∙ and-right (eqb (floor .taken) (length ks)) _ complete
 
-    all-taken : take (f .taken) ks ≡ ks
+    all-taken : take (floor .taken) ks ≡ ks
     unfolding allAnswered
     all-taken =
-        ap (λ (k : ℕ). take k ks) (eqb-true (f .taken) (length ks) (and-left (eqb (f .taken) (length ks)) _ complete))
+        ap (λ (k : ℕ). take k ks) (eqb-true (floor .taken) (length ks) (and-left (eqb (floor .taken) (length ks)) _ complete))
         ∙ take-length ks
 
     pub keys-alike : (p : ℕ → Bool) → count p (after .given) ≡ count p ks
     keys-alike p = run .same-keys p ∙ ap (count p) all-taken
 
     abbrev answers : List Said
-    answers = paired ks (f .answers)
+    answers = paired ks (floor .answers)
 
     -- each key has an answer
     has-answer : All (λ (s : Said). leb 1 (s .answer) ≡ true) answers
@@ -100,11 +101,11 @@ module _ {m r : ℕ} {bytes : List ℕ} (t : PlainTable m r bytes) (n : ℕ) (fe
             count (answeredSo (λ (s : Said). eqb (s .key) x)) answers ≡ count (λ (s : Said). eqb (s .key) x) answers
         each x =
             sym (run .same-answers (λ (s : Said). eqb (s .key) x))
-            ∙ demand-3.answered t tasks no-more (idle-tasks n) (run .actions) done x
+            ∙ demand-3.answered t tasks no-more (idle-tasks (f .tasks)) (run .actions) done x
             ∙ times-given x (after .given)
             ∙ keys-alike (λ (k : ℕ). eqb k x)
             ∙ sym
-            (ap (count (λ (k : ℕ). eqb k x)) (paired-parts ks (f .answers) (run .as-many) .0))
+            (ap (count (λ (k : ℕ). eqb k x)) (paired-parts ks (floor .answers) (run .as-many) .0))
             ∙ count-map (λ (s : Said). s .key) (λ (k : ℕ). eqb k x) answers
 
     pub answers-alike : (p : Said → Bool) → count p (after .said) ≡ count p answers
@@ -114,12 +115,12 @@ module _ {m r : ℕ} {bytes : List ℕ} (t : PlainTable m r bytes) (n : ℕ) (fe
     unfolding timesInserted
     inserted-alike x = answers-alike (λ (s : Said). eqb (s .key) x && eqb (s .answer) 2)
 
-    pub line-plain : PlainTable m r (f .table)
+    pub line-plain : PlainTable (f .shape) (floor .table)
     line-plain =
         subst
-        (PlainTable m r)
+        (PlainTable (f .shape))
         (run .same-table)
-        (demand-3.table-after t tasks no-more (idle-tasks n) (run .actions) done)
+        (demand-3.table-after t tasks no-more (idle-tasks (f .tasks)) (run .actions) done)
 
     pub line-known : All (λ (s : Said). (1 ≤ s .answer) × (s .answer ≤ 3)) answers
     line-known =
@@ -130,24 +131,24 @@ module _ {m r : ℕ} {bytes : List ℕ} (t : PlainTable m r bytes) (n : ℕ) (fe
         let ok = not-false (within 1 3 (s .answer)) e in
         (leb-true 1 (s .answer) (and-left _ _ ok), leb-true (s .answer) 3 (and-right (leb 1 (s .answer)) _ ok)))
         answers-alike
-        (demand-3.answers-known t tasks no-more (idle-tasks n) (run .actions))
+        (demand-3.answers-known t tasks no-more (idle-tasks (f .tasks)) (run .actions))
 
     pub line-lists :
-        (x : ℕ) → listed x (listOf m r (f .table)) ≡ (listed x (listOf m r bytes) || wasInserted x answers)
+        (x : ℕ) → listed x (listOf (f .shape) (floor .table)) ≡ (listed x (listOf (f .shape) bytes) || wasInserted x answers)
     unfolding wasInserted
     line-lists x =
-        ap (λ (bs : List ℕ). listed x (listOf m r bs)) (sym (run .same-table))
-        ∙ demand-3.lists-after t tasks no-more (idle-tasks n) (run .actions) done x
-        ∙ ap (λ (k : ℕ). listed x (listOf m r bytes) || leb 1 k) (inserted-alike x)
+        ap (λ (bs : List ℕ). listed x (listOf (f .shape) bs)) (sym (run .same-table))
+        ∙ demand-3.lists-after t tasks no-more (idle-tasks (f .tasks)) (run .actions) done x
+        ∙ ap (λ (k : ℕ). listed x (listOf (f .shape) bytes) || leb 1 k) (inserted-alike x)
 
     pub line-once : (x : ℕ) → timesInserted x answers ≤ 1
     line-once x =
         omega (
           arith,
           inserted-alike x,
-          demand-3.inserted-once t tasks no-more (idle-tasks n) (run .actions) done x,
+          demand-3.inserted-once t tasks no-more (idle-tasks (f .tasks)) (run .actions) done x,
         )
 
-    pub line-new : (x : ℕ) → listed x (listOf m r bytes) ≡ true → timesInserted x answers ≡ 0
+    pub line-new : (x : ℕ) → listed x (listOf (f .shape) bytes) ≡ true → timesInserted x answers ≡ 0
     line-new x there =
-        sym (inserted-alike x) ∙ demand-3.inserted-new t tasks no-more (idle-tasks n) (run .actions) done x there
+        sym (inserted-alike x) ∙ demand-3.inserted-new t tasks no-more (idle-tasks (f .tasks)) (run .actions) done x there

@@ -14,7 +14,7 @@ use Rattle.rules.specs.declared.Shape.{Shape}
 use Rattle.rules.specs.declared.Task.{Task}
 use Rattle.rules.specs.Lists.{count, all}
 use Rattle.rules.specs.Bytes.{wordsOf, bytesOf}
-use Rattle.rules.specs.Shape.{shapeOf, keys}
+use Rattle.rules.specs.Shape.{keys}
 use Rattle.rules.specs.Answer.{says, leaves}
 use Rattle.rules.specs.Record.{within, busy, atRest, fitsBusy, fits}
 use Rattle.rules.specs.Give.{given, giveTo, give}
@@ -23,6 +23,7 @@ use Rattle.rules.specs.Step.{lentAfter, step}
 use Rattle.table_words.specs.Range.{good-table, remainders-high, range-in}
 use Rattle.theory.specs.Dealt.{and-left, and-right, and-both}
 use Rattle.demands.specs.Terms.{PlainTable, InKeys}
+use Rattle.frame_rules.specs.declared.First.{First}
 use Rattle.frame_rules.specs.Rounds as rounds-of
 use Rattle.frame_rules.specs.Rounds.{Floor, start, turn, turns, round, rounds, allAnswered, limit, play}
 use Rattle.together.specs.Machine.{Action, gives, steps, Said, World, begin, afterGive, afterStep, act, course}
@@ -38,11 +39,11 @@ use Rattle.frame_day.specs.Tally.{Tally, beside-start, took, beside-take
 
 -- ---- courses and what they start from
 course-append :
-    (m r : ℕ) (w : World) (first more : List Action) →
-    course m r w (first ++ more) ≡ course m r (course m r w first) more
+    (sh : Shape) (w : World) (first more : List Action) →
+    course sh w (first ++ more) ≡ course sh (course sh w first) more
 unfolding course
-course-append m r w [] more = refl
-course-append m r w (a ∷ first) more = course-append m r (act m r w a) first more
+course-append sh w [] more = refl
+course-append sh w (a ∷ first) more = course-append sh (act sh w a) first more
 
 pub idle-tasks : (n : ℕ) → quiet (replicate n noTask) ≡ true
 unfolding quiet all atRest
@@ -51,20 +52,20 @@ idle-tasks (suc n) = idle-tasks n
 
 -- a floor's table and tasks, and a history
 abbrev world : Floor → List ℕ → List Said → World
-world f accepted said = record { table = f .table; tasks = f .tasks; given = accepted; said = said }
+world floor accepted said = record { table = floor .table; tasks = floor .tasks; given = accepted; said = said }
 
-record Moment (m r n : ℕ) (bytes ks : List ℕ) (f : Floor) : Type 0 where
+record Moment (f : First) (bytes ks : List ℕ) (floor : Floor) : Type 0 where
   actions : List Action
   accepted : List ℕ
   said : List Said
-  reached : course m r (begin bytes (replicate n noTask)) actions ≡ world f accepted said
-  crew : length (f .tasks) ≡ n
-  beside : Tally ks f accepted said
+  reached : course (f .shape) (begin bytes (replicate (f .tasks) noTask)) actions ≡ world floor accepted said
+  crew : length (floor .tasks) ≡ f .tasks
+  beside : Tally ks floor accepted said
 
 -- what a moment says of its course alone
 moment-follows :
-    {m r n : ℕ} {bytes ks : List ℕ} {f : Floor} → Moment m r n bytes ks f → Follows m r n bytes ks f
-moment-follows {m} {r} {n} {bytes} {ks} {f} now =
+    {f : First} {bytes ks : List ℕ} {floor : Floor} → Moment f bytes ks floor → Follows f bytes ks floor
+moment-follows {f} {bytes} {ks} {floor} now =
     record {
       actions = now .actions;
       same-table = ap (λ (w : World). w .table) (now .reached);
@@ -100,21 +101,21 @@ in-keys-at [] n j h lt = absurd (omega arith)
 in-keys-at (k ∷ ks) n zero h lt = ltb-true k n (and-left (ltb k n) _ h)
 in-keys-at (k ∷ ks) n (suc j) h lt = in-keys-at ks n j (and-right (ltb k n) _ h) (omega arith)
 
-module _ {m r : ℕ} {bytes : List ℕ} (n : ℕ) (ks : List ℕ) (t : PlainTable m r bytes) (few : n ≤ 16)
-    (h : InKeys (shapeOf m r) ks)
+module _ (f : First) {bytes : List ℕ} (ks : List ℕ) (t : PlainTable (f .shape) bytes) (few : f .tasks ≤ 16)
+    (h : InKeys (f .shape) ks)
   where
     -- demand 3's invariant holds at every moment
-    moment-fair : {f : Floor} (now : Moment m r n bytes ks f) → Fair m r bytes (world f (now .accepted) (now .said))
+    moment-fair : {floor : Floor} (now : Moment f bytes ks floor) → Fair (f .shape) bytes (world floor (now .accepted) (now .said))
     unfolding quiet
     moment-fair now =
         subst
-        (Fair m r bytes)
+        (Fair (f .shape) bytes)
         (now .reached)
         (fair-course
         (now .actions)
-        (fair-begin (replicate n noTask) t (omega (arith, length-replicate n noTask)) (idle-tasks n)))
+        (fair-begin (replicate (f .tasks) noTask) t (omega (arith, length-replicate (f .tasks) noTask)) (idle-tasks (f .tasks))))
 
-    moment-start : Moment m r n bytes ks (start bytes n ks)
+    moment-start : Moment f bytes ks (start bytes (f .tasks) ks)
     unfolding start course
     moment-start =
         record {
@@ -122,45 +123,45 @@ module _ {m r : ℕ} {bytes : List ℕ} (n : ℕ) (ks : List ℕ) (t : PlainTabl
           accepted = [];
           said = [];
           reached = refl;
-          crew = length-replicate n noTask;
-          beside = beside-start bytes n ks;
+          crew = length-replicate (f .tasks) noTask;
+          beside = beside-start bytes (f .tasks) ks;
         }
 
-    module _ {f : Floor} (now : Moment m r n bytes ks f) (i : ℕ) (lt : i < n) where
+    module _ {floor : Floor} (now : Moment f bytes ks floor) (i : ℕ) (lt : i < (f .tasks)) where
       abbrev w : World
-      w = world f (now .accepted) (now .said)
+      w = world floor (now .accepted) (now .said)
 
-      fair : Fair m r bytes w
+      fair : Fair (f .shape) bytes w
       fair = moment-fair now
 
-      here : i < length (f .tasks)
+      here : i < length (floor .tasks)
       here = omega (arith, now .crew)
 
-      good-number : goodTask (f .tasks) i ≡ true
+      good-number : goodTask (floor .tasks) i ≡ true
       unfolding goodTask
       good-number =
           and-both
           _
           _
-          (le-leb (length (f .tasks)) 16 (fair .few))
-          (lt-ltb i (length (f .tasks)) here)
+          (le-leb (length (floor .tasks)) 16 (fair .few))
+          (lt-ltb i (length (floor .tasks)) here)
 
       -- ---- a task at rest takes the next key
-      module _ (rest : atRest (taskAt (f .tasks) i) ≡ true) (more : f .taken < length ks) where
+      module _ (rest : atRest (taskAt (floor .tasks) i) ≡ true) (more : floor .taken < length ks) where
         abbrev key : ℕ
-        key = getD ks (f .taken) 0
+        key = getD ks (floor .taken) 0
 
-        accepts : give m r key (f .tasks) i ≡ leaves (says 0) (set (f .tasks) i (given key))
+        accepts : give (f .shape) key (floor .tasks) i ≡ leaves (says 0) (set (floor .tasks) i (given key))
         unfolding give giveTo
         accepts =
             rw (
-              range-in (shapeOf m r) (good-table (shapeOf m r) (length (f .table)) (fair .good) .0),
-              lt-ltb key (keys (shapeOf m r)) (in-keys-at ks (keys (shapeOf m r)) (f .taken) h more),
+              range-in (f .shape) (good-table (f .shape) (length (floor .table)) (fair .good) .0),
+              lt-ltb key (keys (f .shape)) (in-keys-at ks (keys (f .shape)) (floor .taken) h more),
               good-number,
-              rest-not-busy (taskAt (f .tasks) i) rest,
+              rest-not-busy (taskAt (floor .tasks) i) rest,
             )
 
-        moment-took : Moment m r n bytes ks (took ks i f)
+        moment-took : Moment f bytes ks (took ks i floor)
         unfolding course act
         moment-took =
             record {
@@ -168,62 +169,62 @@ module _ {m r : ℕ} {bytes : List ℕ} (n : ℕ) (ks : List ℕ) (t : PlainTabl
               accepted = key ∷ now .accepted;
               said = now .said;
               reached =
-                  course-append m r (begin bytes (replicate n noTask)) (now .actions) (gives i key ∷ [])
-                  ∙ ap (λ (v : World). act m r v (gives i key)) (now .reached)
+                  course-append (f .shape) (begin bytes (replicate (f .tasks) noTask)) (now .actions) (gives i key ∷ [])
+                  ∙ ap (λ (v : World). act (f .shape) v (gives i key)) (now .reached)
                   ∙ ap (afterGive w key) accepts;
-              crew = length-set (f .tasks) i (given key) ∙ now .crew;
+              crew = length-set (floor .tasks) i (given key) ∙ now .crew;
               beside = beside-take (now .beside) i here more;
             }
 
       -- ---- any other task makes a step, which is not refused
-      module _ (works : atRest (taskAt (f .tasks) i) ≡ false) where
-        busy-now : busy (taskAt (f .tasks) i) ≡ true
+      module _ (works : atRest (taskAt (floor .tasks) i) ≡ false) where
+        busy-now : busy (taskAt (floor .tasks) i) ≡ true
         busy-now =
             fits-works
-            (shapeOf m r)
-            (taskAt (f .tasks) i)
+            (f .shape)
+            (taskAt (floor .tasks) i)
             (stage-fits
-            {ws = wordsOf (f .table)}
+            {ws = wordsOf (floor .table)}
             {shown = fair .shown}
             (fair .inv .plain .size)
-            (taskAt (f .tasks) i)
+            (taskAt (floor .tasks) i)
             (fair .inv .stage i here))
             works
 
-        walked : Walked (shapeOf m r) (wordsOf (f .table)) (f .tasks) (fair .laid) (fair .shown) i
+        walked : Walked (f .shape) (wordsOf (floor .table)) (floor .tasks) (fair .laid) (fair .shown) i
         unfolding busy
         walked =
             walk
-            (remainders-high (shapeOf m r) (good-table (shapeOf m r) (length (f .table)) (fair .good) .0))
+            (remainders-high (f .shape) (good-table (f .shape) (length (floor .table)) (fair .good) .0))
             (fair .inv)
             i
             here
-            (leb-true 1 _ (and-left (leb 1 (taskAt (f .tasks) i .phase)) _ busy-now))
-            (leb-true _ 12 (and-right (leb 1 (taskAt (f .tasks) i .phase)) _ busy-now))
+            (leb-true 1 _ (and-left (leb 1 (taskAt (floor .tasks) i .phase)) _ busy-now))
+            (leb-true _ 12 (and-right (leb 1 (taskAt (floor .tasks) i .phase)) _ busy-now))
 
         abbrev next : Task
         next = walked .next
 
         makes :
-            step m r (f .table) (f .tasks) i
-            ≡ leaves (says 0) (record { table = bytesOf (walked .words); tasks = set (f .tasks) i next })
+            step (f .shape) (floor .table) (floor .tasks) i
+            ≡ leaves (says 0) (record { table = bytesOf (walked .words); tasks = set (floor .tasks) i next })
         unfolding step
         makes =
-            rw (fair .good, good-number) (ap (lentAfter (f .table) (f .tasks) i) (walked .step))
+            rw (fair .good, good-number) (ap (lentAfter (floor .table) (floor .tasks) i) (walked .step))
 
         known : next .phase ≡ 13 → 1 ≤ next .answer
         known done = go (walked .ends done)
           where
-            go : Answered (shapeOf m r) (walked .shown-after) next → 1 ≤ next .answer
+            go : Answered (f .shape) (walked .shown-after) next → 1 ≤ next .answer
             go (says-full e) = omega arith
             go (says-shown (inl e) x) = omega arith
             go (says-shown (inr e) x) = omega arith
 
         -- the record that stands at i afterwards is the next one
-        stands : taskAt (set (f .tasks) i next) i ≡ next
-        stands = task-same (f .tasks) i next here
+        stands : taskAt (set (floor .tasks) i next) i ≡ next
+        stands = task-same (floor .tasks) i next here
 
-        moment-stepped : Moment m r n bytes ks (stepped i next (bytesOf (walked .words)) f)
+        moment-stepped : Moment f bytes ks (stepped i next (bytesOf (walked .words)) floor)
         unfolding course act
         moment-stepped =
             record {
@@ -231,74 +232,74 @@ module _ {m r : ℕ} {bytes : List ℕ} (n : ℕ) (ks : List ℕ) (t : PlainTabl
               accepted = now .accepted;
               said = heard next (now .said);
               reached =
-                  course-append m r (begin bytes (replicate n noTask)) (now .actions) (steps i ∷ [])
-                  ∙ ap (λ (v : World). act m r v (steps i)) (now .reached)
+                  course-append (f .shape) (begin bytes (replicate (f .tasks) noTask)) (now .actions) (steps i ∷ [])
+                  ∙ ap (λ (v : World). act (f .shape) v (steps i)) (now .reached)
                   ∙ ap (afterStep w i) makes
                   ∙ ap
                   (λ (u : Task).
-                  world (stepped i next (bytesOf (walked .words)) f) (now .accepted) (heard u (now .said)))
+                  world (stepped i next (bytesOf (walked .words)) floor) (now .accepted) (heard u (now .said)))
                   stands;
-              crew = length-set (f .tasks) i next ∙ now .crew;
+              crew = length-set (floor .tasks) i next ∙ now .crew;
               beside = beside-step (now .beside) i here works next (walked .same-key) (bytesOf (walked .words)) known;
             }
 
-        turn-steps : turn m r ks i f ≡ stepped i next (bytesOf (walked .words)) f
+        turn-steps : turn f ks i floor ≡ stepped i next (bytesOf (walked .words)) floor
         unfolding turn
         turn-steps =
             rw works
-            (ap (rounds-of.afterStep f i) makes
+            (ap (rounds-of.afterStep floor i) makes
             ∙ ap (λ (u : Task). answered-by u) stands)
           where
             answered-by : Task → Floor
             answered-by u =
                 record {
                   table = bytesOf (walked .words);
-                  tasks = set (f .tasks) i next;
-                  serving = f .serving;
-                  taken = f .taken;
-                  answers = cond (eqb (u .phase) 13) (set (f .answers) (getD (f .serving) i 0) (u .answer)) (f .answers);
+                  tasks = set (floor .tasks) i next;
+                  serving = floor .serving;
+                  taken = floor .taken;
+                  answers = cond (eqb (u .phase) 13) (set (floor .answers) (getD (floor .serving) i 0) (u .answer)) (floor .answers);
                 }
 
       -- ---- a turn
-      turn-moment : Moment m r n bytes ks (turn m r ks i f)
+      turn-moment : Moment f bytes ks (turn f ks i floor)
       unfolding turn
-      turn-moment = go (atRest (taskAt (f .tasks) i)) (ltb (f .taken) (length ks)) refl refl
+      turn-moment = go (atRest (taskAt (floor .tasks) i)) (ltb (floor .taken) (length ks)) refl refl
         where
           go :
               (a b : Bool) →
-              atRest (taskAt (f .tasks) i) ≡ a →
-              ltb (f .taken) (length ks) ≡ b → Moment m r n bytes ks (turn m r ks i f)
+              atRest (taskAt (floor .tasks) i) ≡ a →
+              ltb (floor .taken) (length ks) ≡ b → Moment f bytes ks (turn f ks i floor)
           go true true x y =
-              let more = ltb-true (f .taken) (length ks) y in
+              let more = ltb-true (floor .taken) (length ks) y in
               rw (x, y, accepts x more) (moment-took x more)
           go true false x y = rw (x, y) now
-          go false b x y = subst (Moment m r n bytes ks) (sym (turn-steps x)) (moment-stepped x)
+          go false b x y = subst (Moment f bytes ks) (sym (turn-steps x)) (moment-stepped x)
 
     -- ---- turns, rounds
     turns-moment :
-        (k i : ℕ) {f : Floor} → i + k ≤ n → Moment m r n bytes ks f → Moment m r n bytes ks (turns m r ks k i f)
+        (k i : ℕ) {floor : Floor} → i + k ≤ (f .tasks) → Moment f bytes ks floor → Moment f bytes ks (turns f ks k i floor)
     unfolding turns
     turns-moment zero i le now = now
     turns-moment (suc k) i le now =
         turns-moment k (suc i) (omega arith) (turn-moment now i (omega arith))
 
-    rounds-moment : (k : ℕ) {f : Floor} → Moment m r n bytes ks f → Moment m r n bytes ks (rounds m r ks k f)
+    rounds-moment : (k : ℕ) {floor : Floor} → Moment f bytes ks floor → Moment f bytes ks (rounds f ks k floor)
     unfolding rounds round
     rounds-moment zero now = now
-    rounds-moment (suc k) {f} now =
+    rounds-moment (suc k) {floor} now =
         go
-        (allAnswered ks f)
-        (rounds-moment k (turns-moment (length (f .tasks)) 0 (omega (arith, now .crew)) now))
+        (allAnswered ks floor)
+        (rounds-moment k (turns-moment (length (floor .tasks)) 0 (omega (arith, now .crew)) now))
       where
         go :
-            (b : Bool) {g : Floor} → Moment m r n bytes ks g → Moment m r n bytes ks (cond b f g)
+            (b : Bool) {g : Floor} → Moment f bytes ks g → Moment f bytes ks (cond b floor g)
         go true later = now
         go false later = later
 
     -- ---- the line
-    pub rounds-follow : (k : ℕ) → Follows m r n bytes ks (rounds m r ks k (start bytes n ks))
+    pub rounds-follow : (k : ℕ) → Follows f bytes ks (rounds f ks k (start bytes (f .tasks) ks))
     rounds-follow k = moment-follows (rounds-moment k moment-start)
 
-    pub play-follows : Follows m r n bytes ks (play m r n bytes ks)
+    pub play-follows : Follows f bytes ks (play f bytes ks)
     unfolding play
-    play-follows = rounds-follow (limit m (length ks))
+    play-follows = rounds-follow (limit (f .shape) (length ks))

@@ -6,11 +6,13 @@ use mathlib.Core.Path.{_≡_, refl, sym, ap, _∙_}
 use mathlib.Core.Bool.{Bool, true, false, cond, false≢true}
 use mathlib.Core.List.{List, [], _∷_, _++_, append-assoc}
 use lib.ListN.{length}
-use Rattle.rules.specs.Shape.{shapeOf}
+use Rattle.frame_rules.specs.declared.First.{First}
+use Rattle.frame_rules.specs.declared.Stage.{Stage}
+use Rattle.frame_rules.specs.declared.Stage.the-variants.{AtFirst, Among, Ended}
 use Rattle.frame_rules.specs.Digits.{digitsOf}
-use Rattle.frame_rules.specs.Lines.{First, keysOf, goodLine}
+use Rattle.frame_rules.specs.Lines.{keysOf, goodLine}
 use Rattle.frame_rules.specs.Rounds.{Floor, allAnswered, play}
-use Rattle.frame_rules.specs.Frame.{Stage, atFirst, among, ended, Day, dawn, usedPart, withUsed, After, after, printed}
+use Rattle.frame_rules.specs.Frame.{Day, dawn, usedPart, withUsed, After, after, printed}
 use Rattle.frame_rules.specs.Frame.{error, playedLine, frameLine, lineAt, lineIn, outputFrom, atEnd}
 use Rattle.together.specs.Machine.{Said}
 use Rattle.frame_day.specs.Terms.{paired, playedHistory, frameHistory, historyAt, lineHistory, shownAnswers}
@@ -30,11 +32,11 @@ output-parts d (line ∷ lines) =
     ∙ sym (append-assoc (lineIn d line .prints) (printedBy next lines) (atEnd (dayAfter next lines)))
 
 -- ---- one line
--- the run is among its lines
+-- the run is Among its lines
 abbrev going : Stage → Bool
-going atFirst = false
-going (among f) = true
-going ended = false
+going AtFirst = false
+going (Among f) = true
+going Ended = false
 
 played-prints :
     (f : First) (table ks : List ℕ) (p : Floor) →
@@ -45,10 +47,10 @@ unfolding playedLine playedHistory
 played-prints f table ks p size on = go (allAnswered ks p) on
   where
     answered : After
-    answered = after (among f) (withUsed f (p .table) table) (printed (digitsOf (p .answers)))
+    answered = after (Among f) (withUsed f (p .table) table) (printed (digitsOf (p .answers)))
 
     cut : After
-    cut = after ended (withUsed f (p .table) table) error
+    cut = after Ended (withUsed f (p .table) table) error
 
     go :
         (b : Bool) →
@@ -61,7 +63,7 @@ played-prints f table ks p size on = go (allAnswered ks p) on
 frame-prints :
     {f : First} {table : List ℕ} {past : List Said} (line : List ℕ) →
     Kept f table past →
-    goodLine (shapeOf (f .m) (f .r)) line ≡ true →
+    goodLine (f .shape) line ≡ true →
     going (frameLine f table line .day .stage) ≡ true →
     frameLine f table line .prints ≡ shownAnswers (frameHistory f table line)
 unfolding frameLine frameHistory
@@ -71,16 +73,16 @@ frame-prints {f} {table} line k good on =
     f
     table
     (keysOf line)
-    (play (f .m) (f .r) (f .tasks) (usedPart f table) (keysOf line))
-    (course-of k (keysOf line) (good-keys (shapeOf (f .m) (f .r)) line good) .as-many)
+    (play f (usedPart f table) (keysOf line))
+    (course-of k (keysOf line) (good-keys (f .shape) line good) .as-many)
     (rw good at on))
 
 -- a line of keys that does not end the run prints its answers
 pub day-prints :
     (lines : List (List ℕ)) (f : First) (line : List ℕ) →
-    dayAfter dawn lines .stage ≡ among f →
-    goodLine (shapeOf (f .m) (f .r)) line ≡ true →
-    lineIn (dayAfter dawn lines) line .day .stage ≡ among f →
+    dayAfter dawn lines .stage ≡ Among f →
+    goodLine (f .shape) line ≡ true →
+    lineIn (dayAfter dawn lines) line .day .stage ≡ Among f →
     lineIn (dayAfter dawn lines) line .prints ≡ shownAnswers (lineHistory (dayAfter dawn lines) line)
 unfolding lineIn lineHistory
 day-prints lines f line on good still =

@@ -13,7 +13,7 @@ use lib.Dec.{eqb, leb, ltb}
 use borrow.Author.Tests.{eqb-true, eqb-false, eq-eqb, ne-eqb, le-leb, leb-true}
 use Rattle.rules.specs.declared.Shape.{Shape}
 use Rattle.rules.specs.Lists.{bitOf, count, all, any}
-use Rattle.rules.specs.Shape.{shapeOf, homes, remainders, keys}
+use Rattle.rules.specs.Shape.{homes, remainders, keys}
 use Rattle.rules.specs.Entry.{Entry, join}
 use Rattle.rules.specs.Lay.{holds, ascend}
 use Rattle.rules.specs.Record.{noTask}
@@ -26,6 +26,7 @@ use Rattle.demands.specs.Terms.{PlainTable, InKeys, entriesOf, listOf, distinct
 use Rattle.demands.specs.Tables.{low-of}
 use Rattle.demands.specs.Proof2.{ascending-list}
 use Rattle.demands.specs.Proof3.{listed-split, held-key, all-within, all-both, ascending-keys}
+use Rattle.frame_rules.specs.declared.First.{First}
 use Rattle.frame_rules.specs.Rounds.{Floor, allAnswered}
 use Rattle.together.specs.Machine.{Said, timesInserted}
 use Rattle.together.specs.Demand3 as demand-3
@@ -138,53 +139,53 @@ inserted-in sh (s ∷ past) h = go (eqb (s .answer) 2) (inserted-in sh past (and
     go false more = more
 
 -- ---- one line
-module _ {m r : ℕ} {bytes : List ℕ} (t : PlainTable m r bytes) (n : ℕ) (few : n ≤ 16) {ks : List ℕ} {f : Floor}
-    (run : Follows m r n bytes ks f) (complete : allAnswered ks f ≡ true) (h : InKeys (shapeOf m r) ks)
+module _ (f : First) {bytes : List ℕ} (t : PlainTable (f .shape) bytes) (few : f .tasks ≤ 16) {ks : List ℕ} {floor : Floor}
+    (run : Follows f bytes ks floor) (complete : allAnswered ks floor ≡ true) (h : InKeys (f .shape) ks)
   where
     abbrev accepted : List ℕ
-    accepted = after t n few run complete .given
+    accepted = after f t few run complete .given
 
-    accepted-in : InKeys (shapeOf m r) accepted
+    accepted-in : InKeys (f .shape) accepted
     accepted-in =
-        all-count (λ (key : ℕ). ltb key (keys (shapeOf m r))) accepted
+        all-count (λ (key : ℕ). ltb key (keys (f .shape))) accepted
         ∙ ap
         (λ (c : ℕ). eqb c 0)
-        (keys-alike t n few run complete (λ (key : ℕ). not (ltb key (keys (shapeOf m r)))))
-        ∙ sym (all-count (λ (key : ℕ). ltb key (keys (shapeOf m r))) ks)
+        (keys-alike f t few run complete (λ (key : ℕ). not (ltb key (keys (f .shape)))))
+        ∙ sym (all-count (λ (key : ℕ). ltb key (keys (f .shape))) ks)
         ∙ h
 
     accepted-listed : (x : ℕ) → listed x accepted ≡ listed x ks
     unfolding listed
     accepted-listed x =
         any-count (eqb x) accepted
-        ∙ ap (leb 1) (keys-alike t n few run complete (eqb x))
+        ∙ ap (leb 1) (keys-alike f t few run complete (eqb x))
         ∙ sym (any-count (eqb x) ks)
 
     abbrev before : List ℕ
-    before = listOf m r bytes
+    before = listOf (f .shape) bytes
 
-    before-in : InKeys (shapeOf m r) before
-    before-in = ascending-keys (shapeOf m r) (ascending-list (t .whole))
+    before-in : InKeys (f .shape) before
+    before-in = ascending-keys (f .shape) (ascending-list (t .whole))
 
     abbrev answers : List Said
-    answers = paired ks (f .answers)
+    answers = paired ks (floor .answers)
 
     in-answers : keysIn answers ≡ ks
-    in-answers = paired-parts ks (f .answers) (run .as-many) .0
+    in-answers = paired-parts ks (floor .answers) (run .as-many) .0
 
-    module _ (fits : distinct (shapeOf m r) (listOf m r bytes ++ ks) ≤ homes (shapeOf m r)) where
-      fits-accepted : distinct (shapeOf m r) (before ++ accepted) ≤ homes (shapeOf m r)
+    module _ (fits : distinct (f .shape) (listOf (f .shape) bytes ++ ks) ≤ homes (f .shape)) where
+      fits-accepted : distinct (f .shape) (before ++ accepted) ≤ homes (f .shape)
       fits-accepted =
           omega (
             arith,
             fits,
             distinct-fewer
-                (shapeOf m r)
+                (f .shape)
                 (before ++ accepted)
                 (before ++ ks)
                 (low-of (t .whole))
-                (all-both (shapeOf m r) before accepted before-in accepted-in)
-                (all-both (shapeOf m r) before ks before-in h)
+                (all-both (f .shape) before accepted before-in accepted-in)
+                (all-both (f .shape) before ks before-in h)
                 (λ x there. sym (same x) ∙ there),
           )
         where
@@ -200,54 +201,54 @@ module _ {m r : ℕ} {bytes : List ℕ} (t : PlainTable m r bytes) (n : ℕ) (fe
           (λ (s : Said). eqb (s .answer) 3)
           (λ s apart. ne-eqb (s .answer) 3 apart)
           (λ s e. eqb-false (s .answer) 3 e)
-          (answers-alike t n few run complete)
+          (answers-alike f t few run complete)
           (demand-3.none-full
           t
-          (replicate n noTask)
-          (no-more t n few run complete)
-          (idle-tasks n)
+          (replicate (f .tasks) noTask)
+          (no-more f t few run complete)
+          (idle-tasks (f .tasks))
           (run .actions)
-          (done t n few run complete)
+          (done f t few run complete)
           fits-accepted)
 
       -- a new key is answered inserted once
       new-once : (x : ℕ) → listed x ks ≡ true → listed x before ≡ false → timesInserted x answers ≡ 1
       new-once x there new =
-          sym (inserted-alike t n few run complete x)
+          sym (inserted-alike f t few run complete x)
           ∙ demand-3.inserted-exactly-once
           t
-          (replicate n noTask)
-          (no-more t n few run complete)
-          (idle-tasks n)
+          (replicate (f .tasks) noTask)
+          (no-more f t few run complete)
+          (idle-tasks (f .tasks))
           (run .actions)
-          (done t n few run complete)
+          (done f t few run complete)
           fits-accepted
           x
           (accepted-listed x ∙ there)
           new
 
       -- each of the line's keys is listed afterwards
-      pub line-every-listed : (x : ℕ) → listed x ks ≡ true → listed x (listOf m r (f .table)) ≡ true
+      pub line-every-listed : (x : ℕ) → listed x ks ≡ true → listed x (listOf (f .shape) (floor .table)) ≡ true
       unfolding wasInserted
-      line-every-listed x there = line-lists t n few run complete x ∙ go (listed x before) refl
+      line-every-listed x there = line-lists f t few run complete x ∙ go (listed x before) refl
         where
           go : (b : Bool) → listed x before ≡ b → (b || leb 1 (timesInserted x answers)) ≡ true
           go true e = refl
           go false e = ap (leb 1) (new-once x there e)
 
       -- the bytes are those of putting the keys answered inserted
-      pub line-bytes : putAll m r bytes (insertedIn answers) ≡ f .table
+      pub line-bytes : putAll (f .shape) bytes (insertedIn answers) ≡ floor .table
       line-bytes =
           demand-3.bytes-after
           t
-          (replicate n noTask)
-          (no-more t n few run complete)
-          (idle-tasks n)
+          (replicate (f .tasks) noTask)
+          (no-more f t few run complete)
+          (idle-tasks (f .tasks))
           (run .actions)
-          (done t n few run complete)
+          (done f t few run complete)
           fits-accepted
           (insertedIn answers)
-          (inserted-in (shapeOf m r) answers (ap (all (λ (key : ℕ). ltb key (keys (shapeOf m r)))) in-answers ∙ h))
+          (inserted-in (f .shape) answers (ap (all (λ (key : ℕ). ltb key (keys (f .shape)))) in-answers ∙ h))
           (λ x lt. exactly x ∙ ap (λ (b : Bool). b && not (listed x before)) (sym (accepted-listed x)))
           ∙ run .same-table
         where
@@ -257,7 +258,7 @@ module _ {m r : ℕ} {bytes : List ℕ} (t : PlainTable m r bytes) (n : ℕ) (fe
               go :
                   (a b : Bool) →
                   listed x ks ≡ a → listed x before ≡ b → leb 1 (timesInserted x answers) ≡ (a && not b)
-              go true true y z = ap (leb 1) (line-new t n few run complete x z)
+              go true true y z = ap (leb 1) (line-new f t few run complete x z)
               go true false y z = ap (leb 1) (new-once x y z)
               go false b y z =
                   not-asked (leb 1 (timesInserted x answers)) refl

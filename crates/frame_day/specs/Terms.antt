@@ -8,12 +8,14 @@ use mathlib.Core.List.{List, [], _∷_, _++_, map}
 use lib.ListN.{length, take, replicate}
 use lib.Dec.{eqb, leb}
 use Rattle.rules.specs.Lists.{count}
-use Rattle.rules.specs.Shape.{shapeOf}
 use Rattle.rules.specs.Record.{noTask}
+use Rattle.frame_rules.specs.declared.First.{First}
+use Rattle.frame_rules.specs.declared.Stage.{Stage}
+use Rattle.frame_rules.specs.declared.Stage.the-variants.{AtFirst, Among, Ended}
 use Rattle.frame_rules.specs.Digits.{digitsOf}
-use Rattle.frame_rules.specs.Lines.{First, keysOf, goodLine}
+use Rattle.frame_rules.specs.Lines.{keysOf, goodLine}
 use Rattle.frame_rules.specs.Rounds.{Floor, allAnswered, play}
-use Rattle.frame_rules.specs.Frame.{Stage, atFirst, among, ended, Day, usedPart, lineIn, printed}
+use Rattle.frame_rules.specs.Frame.{Day, usedPart, lineIn, printed}
 use Rattle.together.specs.Machine.{Action, Said, begin, course}
 
 -- keys, each with its answer
@@ -37,18 +39,18 @@ answeredSo p s = leb 1 (s .answer) && p s
 
 -- a floor is reached by a course of gives and steps from idle tasks: it has the course's table and tasks; the keys
 -- accepted are those taken, and the answers said are those of the line, each up to its order (as many pass any test)
-pub record Follows (m r n : ℕ) (bytes ks : List ℕ) (f : Floor) : Type 0 where
+pub record Follows (f : First) (bytes ks : List ℕ) (floor : Floor) : Type 0 where
   pub actions : List Action
-  pub same-table : course m r (begin bytes (replicate n noTask)) actions .table ≡ f .table
-  pub same-tasks : course m r (begin bytes (replicate n noTask)) actions .tasks ≡ f .tasks
-  pub as-many : length (f .answers) ≡ length ks
+  pub same-table : course (f .shape) (begin bytes (replicate (f .tasks) noTask)) actions .table ≡ floor .table
+  pub same-tasks : course (f .shape) (begin bytes (replicate (f .tasks) noTask)) actions .tasks ≡ floor .tasks
+  pub as-many : length (floor .answers) ≡ length ks
   pub same-keys :
       (p : ℕ → Bool) →
-      count p (course m r (begin bytes (replicate n noTask)) actions .given) ≡ count p (take (f .taken) ks)
+      count p (course (f .shape) (begin bytes (replicate (f .tasks) noTask)) actions .given) ≡ count p (take (floor .taken) ks)
   pub same-answers :
       (p : Said → Bool) →
-      count p (course m r (begin bytes (replicate n noTask)) actions .said)
-      ≡ count (answeredSo p) (paired ks (f .answers))
+      count p (course (f .shape) (begin bytes (replicate (f .tasks) noTask)) actions .said)
+      ≡ count (answeredSo p) (paired ks (floor .answers))
 
 -- what a line of keys adds to the history: its keys with their answers, if the rounds answered them all
 unfoldable pub playedHistory : List ℕ → Floor → List Said
@@ -57,14 +59,14 @@ playedHistory ks p = cond (allAnswered ks p) (paired ks (p .answers)) []
 unfoldable pub frameHistory : First → List ℕ → List ℕ → List Said
 frameHistory f table line =
     cond
-    (goodLine (shapeOf (f .m) (f .r)) line)
-    (playedHistory (keysOf line) (play (f .m) (f .r) (f .tasks) (usedPart f table) (keysOf line)))
+    (goodLine (f .shape) line)
+    (playedHistory (keysOf line) (play f (usedPart f table) (keysOf line)))
     []
 
 abbrev pub historyAt : Stage → List ℕ → List ℕ → List Said
-historyAt atFirst table line = []
-historyAt (among f) table line = frameHistory f table line
-historyAt ended table line = []
+historyAt AtFirst table line = []
+historyAt (Among f) table line = frameHistory f table line
+historyAt Ended table line = []
 
 -- what one line adds to the history of a run
 unfoldable pub lineHistory : Day → List ℕ → List Said

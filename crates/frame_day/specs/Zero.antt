@@ -11,37 +11,39 @@ use lib.Dec.{leb}
 use lib.Pow.{pow-mono}
 use borrow.Author.Tests.{eq-eqb, leb-true}
 use Rattle.rules.specs.Lists.{all}
-use Rattle.rules.specs.Shape.{shapeOf, homes, places, goodTable, fitsLength}
+use Rattle.rules.specs.Shape.{homes, places, goodTable, fitsLength}
 use Rattle.rules.specs.Record.{within}
 use Rattle.rules.specs.Lay.{ascend}
 use Rattle.table_words.specs.Range.{InRange, range-in}
 use Rattle.theory.specs.Dealt.{and-left, and-right, and-both}
 use Rattle.demands.specs.Terms.{PlainTable, InKeys, listOf, distinct, left-by, putAll, Builds}
 use Rattle.demands.specs.Demand2.{build-lists, build-puts}
-use Rattle.frame_rules.specs.Lines.{First, inLimits}
+use Rattle.rules.specs.declared.Shape.{Shape}
+use Rattle.frame_rules.specs.declared.First.{First}
+use Rattle.frame_rules.specs.Lines.{inLimits, shapeInLimits, tasksInLimits}
 use Rattle.frame_rules.specs.Frame.{used, usedPart}
 
 -- ---- the numbers of a first line that is in its limits
 pub record InLimits (f : First) : Type 0 where
-  pub range : InRange (shapeOf (f .m) (f .r))
-  pub m-high : f .m ≤ 14
+  pub range : InRange (f .shape)
+  pub m-high : f .shape .m ≤ 14
   pub tasks-high : f .tasks ≤ 16
 
 pub in-limits : (f : First) → inLimits f ≡ true → InLimits f
-unfolding inLimits
+unfolding inLimits shapeInLimits tasksInLimits
 in-limits f h =
-    let shape = and-left (within 1 14 (f .m) && within 1 12 (f .r)) _ h in
-    let some = and-left (within 1 14 (f .m)) _ shape in
-    let rest = and-right (within 1 14 (f .m)) _ shape in
-    let crew = and-right (within 1 14 (f .m) && within 1 12 (f .r)) _ h in
-    let m-high = leb-true (f .m) 14 (and-right (leb 1 (f .m)) _ some) in
+    let shape = and-left (within 1 14 (f .shape .m) && within 1 12 (f .shape .r)) _ h in
+    let some = and-left (within 1 14 (f .shape .m)) _ shape in
+    let rest = and-right (within 1 14 (f .shape .m)) _ shape in
+    let crew = and-right (within 1 14 (f .shape .m) && within 1 12 (f .shape .r)) _ h in
+    let m-high = leb-true (f .shape .m) 14 (and-right (leb 1 (f .shape .m)) _ some) in
     record {
       range =
           record {
-            m-low = leb-true 1 (f .m) (and-left (leb 1 (f .m)) _ some);
+            m-low = leb-true 1 (f .shape .m) (and-left (leb 1 (f .shape .m)) _ some);
             m-high = omega (arith, m-high);
-            r-low = leb-true 1 (f .r) (and-left (leb 1 (f .r)) _ rest);
-            r-high = leb-true (f .r) 12 (and-right (leb 1 (f .r)) _ rest);
+            r-low = leb-true 1 (f .shape .r) (and-left (leb 1 (f .shape .r)) _ rest);
+            r-high = leb-true (f .shape .r) 12 (and-right (leb 1 (f .shape .r)) _ rest);
           };
       m-high = m-high;
       tasks-high = leb-true (f .tasks) 16 (and-right (leb 1 (f .tasks)) _ crew);
@@ -53,42 +55,42 @@ take-replicate zero n a le = refl
 take-replicate (suc k) zero a le = absurd (omega arith)
 take-replicate {A} (suc k) (suc n) a le = ap (λ (rest : List A). a ∷ rest) (take-replicate k n a (omega arith))
 
-module _ (m r : ℕ) (range : InRange (shapeOf m r)) where
+module _ (sh : Shape) (range : InRange sh) where
   abbrev zeros : List ℕ
-  zeros = replicate (2 * places (shapeOf m r)) 0
+  zeros = replicate (2 * places sh) 0
 
-  long : length zeros ≡ 2 * places (shapeOf m r)
-  long = length-replicate (2 * places (shapeOf m r)) 0
+  long : length zeros ≡ 2 * places sh
+  long = length-replicate (2 * places sh) 0
 
-  good : goodTable (shapeOf m r) (length zeros) ≡ true
+  good : goodTable sh (length zeros) ≡ true
   unfolding goodTable fitsLength
-  good = and-both _ _ (range-in (shapeOf m r) range) (eq-eqb _ _ long)
+  good = and-both _ _ (range-in sh range) (eq-eqb _ _ long)
 
-  few : distinct (shapeOf m r) [] ≤ homes (shapeOf m r)
+  few : distinct sh [] ≤ homes sh
   unfolding distinct ascend
   few = omega arith
 
-  in-keys : InKeys (shapeOf m r) []
+  in-keys : InKeys sh []
   unfolding all
   in-keys = refl
 
-  nothing : Builds m r zeros []
-  nothing = build-lists m r zeros good [] in-keys few
+  nothing : Builds sh zeros []
+  nothing = build-lists sh zeros good [] in-keys few
 
   is-zeros : nothing .after ≡ zeros
   unfolding putAll
   is-zeros =
-      ap left-by (sym (nothing .answer) ∙ build-puts m r zeros good [] in-keys few)
+      ap left-by (sym (nothing .answer) ∙ build-puts sh zeros good [] in-keys few)
       ∙ ap (λ (n : ℕ). replicate n 0) long
 
-  pub zeros-plain : PlainTable m r (replicate (2 * places (shapeOf m r)) 0)
-  zeros-plain = subst (PlainTable m r) is-zeros (nothing .table)
+  pub zeros-plain : PlainTable sh (replicate (2 * places sh) 0)
+  zeros-plain = subst (PlainTable sh) is-zeros (nothing .table)
 
-  pub zeros-list : listOf m r (replicate (2 * places (shapeOf m r)) 0) ≡ []
+  pub zeros-list : listOf sh (replicate (2 * places sh) 0) ≡ []
   unfolding ascend
-  zeros-list = ap (listOf m r) (sym is-zeros) ∙ nothing .list-after
+  zeros-list = ap (listOf sh) (sym is-zeros) ∙ nothing .list-after
 
 -- ---- the used part of the zeros with which a run begins
 pub used-zeros : (f : First) → InLimits f → usedPart f (replicate 32772 0) ≡ replicate (used f) 0
 unfolding used places homes
-used-zeros f l = take-replicate (used f) 32772 0 (omega (arith, pow-mono {i = f .m} {j = 14} (l .m-high)))
+used-zeros f l = take-replicate (used f) 32772 0 (omega (arith, pow-mono {i = f .shape .m} {j = 14} (l .m-high)))

@@ -6,7 +6,7 @@ use mathlib.Core.Bool.{Bool, true, cond, _&&_}
 use mathlib.Core.List.{List, [], _∷_, _++_}
 use lib.ListN.{length, take, drop, replicate}
 use lib.Dec.{leb, ltb, eqb}
-use Rattle.rules.specs.Listing.{atFront}
+use Rattle.rules.specs.Lists.{atFront}
 use Rattle.rules.specs.Answer.{numberOfRefusal}
 use Rattle.frame_rules.specs.declared.First.{First}
 use Rattle.frame_rules.specs.declared.Run.{Run}

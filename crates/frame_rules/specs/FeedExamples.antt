@@ -8,7 +8,7 @@ use mathlib.Core.List.{List, [], _∷_, _++_, map}
 use lib.ListN.{length, take, replicate}
 use Rattle.rules.specs.Lists.{all}
 use Rattle.rules.specs.Shape.{homes, places}
-use Rattle.rules.specs.Listing.{atFront}
+use Rattle.rules.specs.Lists.{atFront}
 use Rattle.frame_rules.specs.declared.Run.{Run}
 use Rattle.frame_rules.specs.declared.Stage.{Stage}
 use Rattle.frame_rules.specs.declared.Stage.the-variants.{AtFirst, Among, Ended}

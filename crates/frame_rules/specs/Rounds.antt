@@ -69,9 +69,9 @@ turn f ks i p =
     cond
     (atRest (taskAt (p .tasks) i))
     (cond (ltb (p .taken) (length ks))
-    (afterTake p i (give (f .shape .m) (f .shape .r) (getD ks (p .taken) 0) (p .tasks) i))
+    (afterTake p i (give (f .shape) (getD ks (p .taken) 0) (p .tasks) i))
     p)
-    (afterStep p i (step (f .shape .m) (f .shape .r) (p .table) (p .tasks) i))
+    (afterStep p i (step (f .shape) (p .table) (p .tasks) i))
 
 -- the turns of n tasks, from task i up
 unfoldable pub turns : First → List ℕ → ℕ → ℕ → Floor → Floor
