@@ -3,6 +3,7 @@
 use table_words::bit::bit_of;
 use table_words::bytes::word_at;
 use table_words::place::Place;
+use table_words::place::left_of;
 use table_words::word::change;
 use table_words::word::occupied;
 use table_words::word::virgin;
@@ -54,7 +55,7 @@ pub fn left_end(table: &[u8], h: Place) -> End
     requires { ⌜ at (wordsOf (now table)) (h .0) .occupied ≡ true ⌝ }
     ensures { λ e. ⌜ e ≡ leftEnd (wordsOf (now (table .entry))) (h .0) ⌝ }
 {
-    let mut i = h.0 - 1;
+    let mut i = left_of(h).0;
     let mut virgins: u32 = 0;
     let mut changes: u32 = 0;
     let mut w = word_at(table, Place(i));

@@ -4,6 +4,7 @@ use rules::Shape;
 use table_words::bit::bit_of;
 use table_words::bytes::word_at;
 use table_words::place::Place;
+use table_words::place::right_of;
 use table_words::shape::remainders;
 use table_words::word::change;
 use table_words::word::is_void;
@@ -30,7 +31,7 @@ pub fn all_occupied(table: &[u8], l: Place, r: Place) -> bool
     ensures { λ t. ⌜ t ≡ all isOccupied (between (wordsOf (now (table .entry))) (l .0) (r .0)) ⌝ }
 {
     let end = r.0;
-    let mut i = l.0 + 1;
+    let mut i = right_of(l).0;
     while i < end {
         if occupied(word_at(table, Place(i))) {
             i += 1;
@@ -63,7 +64,7 @@ pub fn sound_run(sh: Shape, table: &[u8], l: Place, r: Place) -> bool
     let mut last = with_change(0, true);
     let mut virgins: u32 = 0;
     let mut changes: u32 = 0;
-    let mut i = l.0 + 1;
+    let mut i = right_of(l).0;
     while i < end {
         let w = word_at(table, Place(i));
         if follows(low, last, w) {
@@ -112,10 +113,10 @@ pub fn check_run(sh: Shape, table: &[u8], l: Place, r: End) -> Check
     let end = r.gap.0;
     let mut up = true;
     let mut over: u16 = 0;
-    let mut i = l.0 + 1;
+    let mut i = right_of(l).0;
     while i < end {
         let w = word_at(table, Place(i));
-        let next = word_at(table, Place(i + 1));
+        let next = word_at(table, right_of(Place(i)));
         up = up & rises(w, next);
         over = over | w;
         i += 1;

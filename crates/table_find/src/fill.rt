@@ -6,7 +6,7 @@ use table_words::bit::bit_of;
 use table_words::bytes::word_at;
 use table_words::place::Place;
 use table_words::shape::good_table;
-use table_words::shape::homes;
+use table_words::shape::places;
 use table_words::shape::shape_of;
 use table_words::word::occupied;
 ghost use mathlib.Core.Path.{_≡_};
@@ -40,7 +40,7 @@ fn figure(sh: Shape, table: &[u8]) -> u32
     requires { ⌜ InRange sh ⌝ ∗ ⌜ length (now table) ≡ 2 * places sh ⌝ }
     ensures { λ x. ⌜ x ≡ spec-figure sh (wordsOf (now (table .entry))) ⌝ }
 {
-    let n = homes(sh) + 2;
+    let n = places(sh);
     count_occupied(table, n) * 1000 / n
 }
 

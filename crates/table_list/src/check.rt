@@ -5,8 +5,10 @@ use table_cluster::guards::guards_void;
 use table_words::bit::bit_of;
 use table_words::bytes::word_at;
 use table_words::place::Place;
-use table_words::shape::homes;
+use table_words::place::left_of;
+use table_words::shape::places;
 use table_words::shape::remainders;
+use table_words::shape::right_guard;
 use table_words::word::change;
 use table_words::word::is_void;
 use table_words::word::lock;
@@ -41,14 +43,6 @@ pub struct Check {
     pub keys: u32,
 }
 
-// The place after the right guard: as many places as there are.
-fn end_of(sh: Shape) -> Place
-    requires { ⌜ InRange sh ⌝ }
-    ensures { λ p. ⌜ p .0 ≡ places sh ⌝ }
-{
-    Place(homes(sh) + 2)
-}
-
 // Whether the word v may stand before the word w.
 fn stands(v: u16, w: u16) -> bool
     ensures { λ t. ⌜ t ≡ spec.stands (wordOf v) (wordOf w) ⌝ }
@@ -61,18 +55,18 @@ fn check_order(sh: Shape, table: &[u8]) -> Order
     requires { ⌜ InRange sh ⌝ ∗ ⌜ length (now table) ≡ 2 * places sh ⌝ }
     ensures { λ c. ⌜ c ≡ spec.orderOf sh (wordsOf (now (table .entry))) ⌝ }
 {
-    let end = end_of(sh).0;
+    let end = places(sh);
     let mut up = true;
     let mut over: u16 = 0;
     let mut i: u32 = 1;
     while i < end {
-        let v = word_at(table, Place(i - 1));
+        let v = word_at(table, left_of(Place(i)));
         let w = word_at(table, Place(i));
         up = up & stands(v, w);
         over = over | v;
         i += 1;
     }
-    let last = word_at(table, Place(i - 1));
+    let last = word_at(table, right_guard(sh));
     let all = over | last;
     let low = (remainder(all) as u32) < remainders(sh);
     Order {
@@ -85,7 +79,7 @@ fn check_gaps(sh: Shape, table: &[u8]) -> Gaps
     requires { ⌜ InRange sh ⌝ ∗ ⌜ length (now table) ≡ 2 * places sh ⌝ }
     ensures { λ c. ⌜ c ≡ spec.gapsOf (wordsOf (now (table .entry))) ⌝ }
 {
-    let end = end_of(sh).0;
+    let end = places(sh);
     let mut even = true;
     let mut virgins: u32 = 0;
     let mut changes: u32 = 0;

@@ -5,6 +5,7 @@ use rules::Shape;
 use table_words::bytes::word_at;
 use table_words::key::join;
 use table_words::place::Place;
+use table_words::shape::left_guard;
 use table_words::word::change;
 use table_words::word::occupied;
 use table_words::word::remainder;
@@ -75,8 +76,8 @@ pub fn write_keys(sh: Shape, table: &[u8], n: usize, slots: &mut [u32])
     requires { ⌜ Listable sh (now table) n (now slots) ⌝ }
     ensures { λ _. ⌜ now (slots .exit) ≡ atFront (list sh (wordsOf (now (table .entry)))) (now (slots .entry)) ⌝ }
 {
-    let mut h = Place(0);
-    let mut p = Place(0);
+    let mut h = left_guard();
+    let mut p = h;
     let mut w = with_change(0, true);
     let mut k: usize = 0;
     while k < n {

@@ -2,6 +2,8 @@
 use table_words::bytes::set_word;
 use table_words::bytes::word_at;
 use table_words::place::Place;
+use table_words::place::left_of;
+use table_words::place::right_of;
 use table_words::word::filled_with;
 use table_words::word::with_payload;
 ghost use mathlib.Core.Path.{_≡_};
@@ -37,9 +39,9 @@ pub fn toward(hand: Place, goal: Place) -> Place
     ensures { λ p. ⌜ p .0 ≡ motion.toward (hand .0) (goal .0) ⌝ }
 {
     if hand.0 < goal.0 {
-        Place(hand.0 + 1)
+        right_of(hand)
     } else {
-        Place(hand.0 - 1)
+        left_of(hand)
     }
 }
 
@@ -51,13 +53,13 @@ fn shift_left(table: &mut [u8], hand: Place, goal: Place)
     ensures { λ _. ⌜ wordsOf (now (table .exit))
         ≡ shifts (motion.distance (hand .0) (goal .0)) (wordsOf (now (table .entry))) (hand .0) (goal .0) ⌝ }
 {
-    let end = goal.0;
-    let mut i = hand.0;
-    while i < end {
-        let right = word_at(table, Place(i + 1));
-        let own = word_at(table, Place(i));
-        set_word(table, Place(i), with_payload(right, own));
-        i += 1;
+    let mut p = hand;
+    while p.0 < goal.0 {
+        let next = right_of(p);
+        let right = word_at(table, next);
+        let own = word_at(table, p);
+        set_word(table, p, with_payload(right, own));
+        p = next;
     }
 }
 
@@ -68,13 +70,13 @@ fn shift_right(table: &mut [u8], hand: Place, goal: Place)
     ensures { λ _. ⌜ wordsOf (now (table .exit))
         ≡ shifts (motion.distance (hand .0) (goal .0)) (wordsOf (now (table .entry))) (hand .0) (goal .0) ⌝ }
 {
-    let end = goal.0;
-    let mut i = hand.0;
-    while i > end {
-        let left = word_at(table, Place(i - 1));
-        let own = word_at(table, Place(i));
-        set_word(table, Place(i), with_payload(left, own));
-        i -= 1;
+    let mut p = hand;
+    while p.0 > goal.0 {
+        let next = left_of(p);
+        let left = word_at(table, next);
+        let own = word_at(table, p);
+        set_word(table, p, with_payload(left, own));
+        p = next;
     }
 }
 

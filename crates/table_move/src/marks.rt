@@ -2,6 +2,7 @@
 use table_words::bytes::set_word;
 use table_words::bytes::word_at;
 use table_words::place::Place;
+use table_words::place::left_of;
 use table_words::word::with_change;
 use table_words::word::with_virgin;
 ghost use mathlib.Core.Path.{_≡_};
@@ -39,7 +40,7 @@ pub fn mark(table: &mut [u8], mark: u8, goal: Place, h: Place)
     } else {
         if mark == 1 {
             set_change(table, goal, true);
-            set_change(table, Place(goal.0 - 1), false);
+            set_change(table, left_of(goal), false);
             return;
         } else {
             return;

@@ -1,14 +1,21 @@
 // Build (01, Answers and their numbers): puts from all zero, so into a table that stays sound and unlocked.
 // A key that finds no room shows that there are too many.
-use crate::put::put_clean;
+use crate::adding::put_alone;
+use crate::adding::put_beside;
 use rules::Done;
 use rules::PutAnswer;
 use rules::Refusal;
 use rules::Shape;
+use table_cluster::gaps::left_end;
 use table_words::bytes::clear;
+use table_words::bytes::word_at;
 use table_words::key::good_key;
+use table_words::key::home_place;
+use table_words::key::remainder_of;
+use table_words::place::Place;
 use table_words::shape::good_table;
 use table_words::shape::shape_of;
+use table_words::word::occupied;
 ghost use mathlib.Core.Path.{_≡_};
 ghost use mathlib.Core.Bool.{true};
 ghost use mathlib.Core.List.{map};
@@ -19,10 +26,14 @@ ghost use Rattle.rules.specs.Lists.{all};
 ghost use Rattle.rules.specs.Bytes.{wordsOf};
 ghost use Rattle.rules.specs.Shape.{shapeOf, places, keys as keys-of};
 ghost use Rattle.rules.specs.Entry.{split};
-ghost use Rattle.rules.specs.Answer.{leaves, doneSays};
+ghost use Rattle.rules.specs.Answer.{leaves, putSays, doneSays};
+ghost use Rattle.rules.specs.Put.{putIn};
 ghost use Rattle.rules.specs.Build.{buildIn, build as spec-build};
 ghost use Rattle.table_words.specs.Range.{InRange};
+ghost use Rattle.table_words.specs.Split.{InShape};
+ghost use Rattle.table_read.specs.Read.{entry};
 ghost use Rattle.table_put.specs.Filling.{filled, filledIf, fillWith, fillAll, Clean};
+ghost use Rattle.table_put.specs.Putting.{wordsLeft};
 
 // The number of keys is a power of two, so it is enough to ask for all of them laid over one another.
 fn good_keys(sh: Shape, keys: &[u32]) -> bool
@@ -36,6 +47,31 @@ fn good_keys(sh: Shape, keys: &[u32]) -> bool
         i += 1;
     }
     good_key(sh, over)
+}
+
+// Put in a table that is known to be sound and unlocked: nothing of that is asked again.
+fn put_clean_at(sh: Shape, table: &mut [u8], h: Place, x: u16) -> PutAnswer
+    requires { ⌜ InRange sh ⌝ ∗ ⌜ length (now table) ≡ 2 * places sh ⌝ ∗ ⌜ InShape sh (entry (h .0) x) ⌝ }
+    requires { ⌜ Clean sh (wordsOf (now table)) ⌝ }
+    ensures { λ a. ⌜ leaves (putSays a) (wordsOf (now (table .exit)))
+        ≡ wordsLeft (wordsOf (now (table .entry))) (putIn sh (wordsOf (now (table .entry))) (entry (h .0) x)) ⌝ }
+{
+    let w = word_at(table, h);
+    if occupied(w) {
+        let l = left_end(table, h);
+        return put_beside(sh, table, l, h, x);
+    } else {
+        return put_alone(table, h, x);
+    }
+}
+
+fn put_clean(sh: Shape, table: &mut [u8], key: u32) -> PutAnswer
+    requires { ⌜ InRange sh ⌝ ∗ ⌜ length (now table) ≡ 2 * places sh ⌝ ∗ ⌜ key < keys-of sh ⌝ }
+    requires { ⌜ Clean sh (wordsOf (now table)) ⌝ }
+    ensures { λ a. ⌜ leaves (putSays a) (wordsOf (now (table .exit)))
+        ≡ wordsLeft (wordsOf (now (table .entry))) (putIn sh (wordsOf (now (table .entry))) (split sh key)) ⌝ }
+{
+    put_clean_at(sh, table, home_place(sh, key), remainder_of(sh, key))
 }
 
 // Whether there was room for the key.

@@ -4,6 +4,9 @@ use table_cluster::gaps::End;
 use table_words::bit::bit_of;
 use table_words::bytes::word_at;
 use table_words::place::Place;
+use table_words::place::left_of;
+use table_words::place::places_between;
+use table_words::place::right_of;
 use table_words::word::change;
 use table_words::word::remainder;
 use table_words::word::virgin;
@@ -109,12 +112,12 @@ fn pass_back(table: &[u8], l: Place, h: Place, k: u32) -> Place
 {
     let end = l.0;
     let mut left = k;
-    let mut i = h.0 - 1;
+    let mut i = left_of(h).0;
     while i > end {
         let w = word_at(table, Place(i));
         if change(w) {
             if left == 0 {
-                return Place(i + 1);
+                return right_of(Place(i));
             } else {
                 left -= 1;
                 i -= 1;
@@ -123,7 +126,7 @@ fn pass_back(table: &[u8], l: Place, h: Place, k: u32) -> Place
             i -= 1;
         }
     }
-    Place(i + 1)
+    right_of(Place(i))
 }
 
 // Where the home's group begins or would: the groups of the homes left of it are passed over. The way is counted from
@@ -166,7 +169,7 @@ pub fn read_from(table: &[u8], l: Place, p: Place, h: Place, x: u16) -> Read
     requires { ⌜ Begins (now table) (l .0) (p .0) (h .0) ⌝ }
     ensures { λ a. ⌜ a ≡ readFrom (now (table .entry)) (l .0) (entry (h .0) x) ⌝ }
 {
-    let before = p.0 - (l.0 + 1);
+    let before = places_between(l, p);
     if virgin(word_at(table, h)) {
         return read_group(table, p, x, before);
     } else {

@@ -54,6 +54,12 @@ pub fn places(sh: Shape) -> u32
     homes(sh) + 2
 }
 
+pub fn left_guard() -> Place
+    ensures { λ p. ⌜ p .0 ≡ 0 ⌝ }
+{
+    Place(0)
+}
+
 pub fn right_guard(sh: Shape) -> Place
     requires { ⌜ InRange sh ⌝ }
     ensures { λ p. ⌜ p .0 ≡ rightGuard sh ⌝ }

@@ -1,18 +1,11 @@
 // A word: its fields, what it is, and the word with a field changed.
+use crate::bit::bit_of;
 ghost use mathlib.Core.Path.{_≡_};
 ghost use mathlib.Core.Bool.{true};
 ghost use Prim.Native.Nat.{_<_};
-ghost use Rattle.rules.specs.Lists.{bitOf};
 ghost use Rattle.rules.specs.Word.{wordOf, isVoid, isZero, isLock};
 ghost use Rattle.rules.specs.Word.{withLock, withVirgin, withChange, filledWith, withPayload};
 ghost use Rattle.rules.specs.Phase.{aloneWord};
-
-// A bit as a number.
-fn bit_of(b: bool) -> u16
-    ensures { λ x. ⌜ (x ≡ bitOf b) × (x < 2) ⌝ }
-{
-    if b { 1 } else { 0 }
-}
 
 pub fn remainder(w: u16) -> u16
     ensures { λ x. ⌜ x ≡ wordOf w .remainder ⌝ }
@@ -65,13 +58,13 @@ pub fn is_lock(w: u16) -> bool
 pub fn with_lock(w: u16, b: bool) -> u16
     ensures { λ v. ⌜ wordOf v ≡ withLock b (wordOf w) ⌝ }
 {
-    w % 32768 + 32768 * bit_of(b)
+    w % 32768 + 32768 * bit_of(b) as u16
 }
 
 pub fn with_change(w: u16, b: bool) -> u16
     ensures { λ v. ⌜ wordOf v ≡ withChange b (wordOf w) ⌝ }
 {
-    w / 32768 * 32768 + 16384 * bit_of(b) + w % 16384
+    w / 32768 * 32768 + 16384 * bit_of(b) as u16 + w % 16384
 }
 
 pub fn with_virgin(w: u16) -> u16

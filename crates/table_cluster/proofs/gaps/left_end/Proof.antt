@@ -1,7 +1,7 @@
 -- `left_end` meets its contract. The invariant: the word is that of the place that is reached, from where the
 -- left gap is the home's, and the bits of the words between are counted.
 -- Assumes nothing.
-use Prim.Native.Nat.{_+_, _-_, _<_}
+use Prim.Native.Nat.{_+_, _<_}
 use mathlib.Core.Path.{_≡_, sym, _∙_, ap}
 use borrow.Author.Needs.{needs}
 use native.Mathlib.Omega.{arith}
@@ -22,22 +22,29 @@ Inv-loop table i₀ virgins₀ changes₀ w₀ i virgins changes w =
 abbrev μ-loop : tie.MeasureT-loop
 μ-loop table i₀ virgins₀ changes₀ w₀ i virgins changes w = i
 
-sub-i : tie.Need-sub-i Inv-loop μ-loop
-sub-i c =
-    let start = c .before .before in
+left-of-requires : tie.Need-left-of-requires Inv-loop μ-loop
+left-of-requires c κs =
+    let start = c .before in
     some-before (wordsOf (now (start .args .table))) (start .args .h .0) (start .pre .1 .0) (start .pre .1 .1)
 
 word-at-requires : tie.Need-word-at-requires Inv-loop μ-loop
 word-at-requires c κs = omega arith
 
+-- the home is right of where the search begins
+home :
+    (beside : tie.After-left-of Inv-loop μ-loop) →
+    beside .left-of .result .0 + 1 ≡ beside .before .before .args .h .0
+home beside =
+    let start = beside .before .before in
+    let ws = wordsOf (now (start .args .table)) in
+    omega (arith, beside .left-of .ensures, some-before ws (start .args .h .0) (start .pre .1 .0) (start .pre .1 .1))
+
 loop-holds : tie.Need-loop-holds Inv-loop μ-loop
 loop-holds c =
-    let start = c .before .before .before in
+    let beside = c .before in
+    let start = beside .before .before in
     let bs = now (start .args .table) in
-    let homeAt = start .args .h .0 in
-    let some = some-before (wordsOf bs) homeAt (start .pre .1 .0) (start .pre .1 .1) in
-    let back : homeAt - 1 + 1 ≡ homeAt = omega arith in
-    (c .word-at .ensures, left-begins bs (homeAt - 1) (omega arith) (rw back (start .pre .1 .1)))
+    (c .word-at .ensures, left-begins bs _ (omega (arith, home beside)) (rw (home beside) (start .pre .1 .1)))
 
 occupied-requires : tie.Need-occupied-requires Inv-loop μ-loop
 occupied-requires c κs = search needs
@@ -75,8 +82,8 @@ not-guard turn =
     (start .pre .1 .0)
     (ap isOccupied (sym (head .loop .inv .0)) ∙ sym (turn .before .occupied .ensures) ∙ turn .if1 .taken)
 
-sub-i-2 : tie.Need-sub-i-2 Inv-loop μ-loop
-sub-i-2 c = not-guard (c .before .before .before .before)
+sub-i : tie.Need-sub-i Inv-loop μ-loop
+sub-i c = not-guard (c .before .before .before .before)
 
 word-at-requires-2 : tie.Need-word-at-requires-2 Inv-loop μ-loop
 word-at-requires-2 c κs =
@@ -109,17 +116,13 @@ loop-again c =
 returns : tie.Need-returns Inv-loop μ-loop
 returns c =
     let head = c .before .before in
-    let start = head .before .before .before .before in
-    let bs = now (start .args .table) in
-    let homeAt = start .args .h .0 in
-    let some = some-before (wordsOf bs) homeAt (start .pre .1 .0) (start .pre .1 .1) in
-    let back : homeAt - 1 + 1 ≡ homeAt = omega arith in
+    let beside = head .before .before in
     left-ends
     (head .loop .inv .1)
     (head .loop .w)
     (head .loop .inv .0)
     (sym (c .before .occupied .ensures) ∙ c .if1 .left)
-    ∙ ap (leftEnd (wordsOf bs)) back
+    ∙ ap (leftEnd (wordsOf (now (beside .before .before .args .table)))) (home beside)
 
 pub left-end-spec : {M : Type 1} → statement M
 left-end-spec =
@@ -127,7 +130,7 @@ left-end-spec =
     (tie.spec
     Inv-loop
     μ-loop
-    sub-i
+    left-of-requires
     word-at-requires
     loop-holds
     occupied-requires
@@ -137,7 +140,7 @@ left-end-spec =
     change-requires
     bit-of-requires-2
     add-changes
-    sub-i-2
+    sub-i
     word-at-requires-2
     loop-less
     loop-again

@@ -20,8 +20,8 @@ Inv-loop table end i₀ i =
 abbrev μ-loop : tie.MeasureT-loop
 μ-loop table end i₀ i = end - i
 
-add-i : tie.Need-add-i Inv-loop μ-loop
-add-i c = omega arith
+right-of-requires : tie.Need-right-of-requires Inv-loop μ-loop
+right-of-requires c κs = omega arith
 
 loop-holds : tie.Need-loop-holds Inv-loop μ-loop
 loop-holds c = refl
@@ -32,8 +32,8 @@ word-at-requires c κs = omega arith
 occupied-requires : tie.Need-occupied-requires Inv-loop μ-loop
 occupied-requires c κs = search needs
 
-add-i-2 : tie.Need-add-i-2 Inv-loop μ-loop
-add-i-2 c = omega arith
+add-i : tie.Need-add-i Inv-loop μ-loop
+add-i c = omega arith
 
 loop-less : tie.Need-loop-less Inv-loop μ-loop
 loop-less c = omega arith
@@ -68,7 +68,7 @@ returns c =
     (turn .loop-test .taken)
     (start .pre .1)
     (sym seen ∙ sym (c .before .occupied .ensures) ∙ c .if1 .left))
-    ∙ head .loop .inv
+    ∙ (rw (head .before .right-of .ensures) at (head .loop .inv))
     ∙ ap (all isOccupied) (run-after bs (start .args .l .0) (start .args .r .0))
 
 returns-2 : tie.Need-returns-2 Inv-loop μ-loop
@@ -77,7 +77,7 @@ returns-2 c =
     let start = head .before .before .before in
     let bs = now (start .args .table) in
     sym (occupied-end bs (head .loop .i) (start .args .r .0) (c .loop-test .left))
-    ∙ head .loop .inv
+    ∙ (rw (head .before .right-of .ensures) at (head .loop .inv))
     ∙ ap (all isOccupied) (run-after bs (start .args .l .0) (start .args .r .0))
 
 pub all-occupied-spec : {M : Type 1} → statement M
@@ -86,11 +86,11 @@ all-occupied-spec =
     (tie.spec
     Inv-loop
     μ-loop
-    add-i
+    right-of-requires
     loop-holds
     word-at-requires
     occupied-requires
-    add-i-2
+    add-i
     loop-less
     loop-again
     returns

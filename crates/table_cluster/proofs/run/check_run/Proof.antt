@@ -28,8 +28,8 @@ word-at-requires c κs = omega arith
 word-at-requires-2 : tie.Need-word-at-requires-2 Inv-loop μ-loop
 word-at-requires-2 c κs = omega arith
 
-add-i : tie.Need-add-i Inv-loop μ-loop
-add-i c = omega arith
+right-of-requires : tie.Need-right-of-requires Inv-loop μ-loop
+right-of-requires c κs = omega arith
 
 loop-holds : tie.Need-loop-holds Inv-loop μ-loop
 loop-holds c = (omega arith, refl)
@@ -37,8 +37,8 @@ loop-holds c = (omega arith, refl)
 word-at-requires-3 : tie.Need-word-at-requires-3 Inv-loop μ-loop
 word-at-requires-3 c κs = omega arith
 
-add-t17 : tie.Need-add-t17 Inv-loop μ-loop
-add-t17 c = omega arith
+right-of-requires-2 : tie.Need-right-of-requires-2 Inv-loop μ-loop
+right-of-requires-2 c κs = omega arith
 
 word-at-requires-4 : tie.Need-word-at-requires-4 Inv-loop μ-loop
 word-at-requires-4 c κs = omega arith
@@ -46,8 +46,8 @@ word-at-requires-4 c κs = omega arith
 rises-requires : tie.Need-rises-requires Inv-loop μ-loop
 rises-requires c κs = search needs
 
-add-i-2 : tie.Need-add-i-2 Inv-loop μ-loop
-add-i-2 c = omega arith
+add-i : tie.Need-add-i Inv-loop μ-loop
+add-i c = omega arith
 
 loop-less : tie.Need-loop-less Inv-loop μ-loop
 loop-less c = omega arith
@@ -55,7 +55,8 @@ loop-less c = omega arith
 loop-again : tie.Need-loop-again Inv-loop μ-loop
 loop-again c =
     let next = c .before in
-    let read = next .before in
+    let beside = next .before in
+    let read = beside .before in
     let turn = read .before in
     let head = turn .before in
     let start = head .before .before .before .before .before in (
@@ -72,7 +73,7 @@ loop-again c =
           (turn .loop-test .taken)
           (start .pre .1 .1 .0)
           (read .word-at3 .ensures)
-          (next .word-at4 .ensures)
+          (rw (beside .right-of2 .ensures) at (next .word-at4 .ensures))
           (head .loop .inv .0)
           (omega (arith, read .word-at3 .ok))
           (c .rises .result)
@@ -149,7 +150,7 @@ returns c =
     (head .loop .up)
     (head .loop .over)
     (ended .loop-test .left))
-    ∙ head .loop .inv .1))
+    ∙ (rw (head .before .right-of .ensures) at (head .loop .inv .1))))
 
 pub check-run-spec : {M : Type 1} → statement M
 check-run-spec =
@@ -159,13 +160,13 @@ check-run-spec =
     μ-loop
     word-at-requires
     word-at-requires-2
-    add-i
+    right-of-requires
     loop-holds
     word-at-requires-3
-    add-t17
+    right-of-requires-2
     word-at-requires-4
     rises-requires
-    add-i-2
+    add-i
     loop-less
     loop-again
     remainder-requires

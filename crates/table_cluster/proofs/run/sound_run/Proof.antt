@@ -34,8 +34,8 @@ remainders-requires c κs = c .before .pre .0
 with-change-requires : tie.Need-with-change-requires Inv-loop μ-loop
 with-change-requires c κs = search needs
 
-add-i : tie.Need-add-i Inv-loop μ-loop
-add-i c = omega arith
+right-of-requires : tie.Need-right-of-requires Inv-loop μ-loop
+right-of-requires c κs = omega arith
 
 loop-holds : tie.Need-loop-holds Inv-loop μ-loop
 loop-holds c = (omega arith, omega arith, refl)
@@ -64,8 +64,8 @@ bit-of-requires-2 c κs = search needs
 add-changes : tie.Need-add-changes Inv-loop μ-loop
 add-changes c = omega arith
 
-add-i-2 : tie.Need-add-i-2 Inv-loop μ-loop
-add-i-2 c = omega arith
+add-i : tie.Need-add-i Inv-loop μ-loop
+add-i c = omega arith
 
 loop-less : tie.Need-loop-less Inv-loop μ-loop
 loop-less c = omega arith
@@ -112,7 +112,7 @@ whole :
     ≡ soundRun (start .args .sh) (between (wordsOf (now (start .args .table))) (start .args .l .0) (start .args .r .0))
 whole head =
     let start = head .before .before .before .before .before in
-    head .loop .inv .2
+    (rw (head .before .right-of .ensures) at (head .loop .inv .2))
     ∙ sound-start
     (start .args .sh)
     (now (start .args .table))
@@ -185,7 +185,7 @@ sound-run-spec =
     μ-loop
     remainders-requires
     with-change-requires
-    add-i
+    right-of-requires
     loop-holds
     word-at-requires
     follows-requires
@@ -195,7 +195,7 @@ sound-run-spec =
     change-requires
     bit-of-requires-2
     add-changes
-    add-i-2
+    add-i
     loop-less
     loop-again
     returns

@@ -13,13 +13,8 @@ use Rattle.table_find.specs.Count.{count-few}
 use Rattle.table_find.proofs.fill.figure.Statement.{statement}
 use Rattle.table_find.proofs.fill.figure.Tie as tie
 
-homes-requires : tie.Need-homes-requires
-homes-requires c κs = search needs
-
-add-n : tie.Need-add-n
-add-n c =
-    let start = c .before .before in
-    omega (arith, homes-high (start .args .sh) (start .pre .0))
+places-requires : tie.Need-places-requires
+places-requires c κs = search needs
 
 count-occupied-requires : tie.Need-count-occupied-requires
 unfolding places
@@ -40,12 +35,13 @@ mul-result c =
     )
 
 div-result : tie.Need-div-result
+unfolding places
 div-result c = search needs
 
 returns : tie.Need-returns
-unfolding figure places
-returns c = rw (c .count-occupied .ensures, c .before .homes .ensures)
+unfolding figure
+returns c = rw (c .count-occupied .ensures, c .before .places .ensures)
 
 pub figure-spec : {M : Type 1} → statement M
 figure-spec =
-    tie.close (tie.spec homes-requires add-n count-occupied-requires mul-result div-result returns)
+    tie.close (tie.spec places-requires count-occupied-requires mul-result div-result returns)

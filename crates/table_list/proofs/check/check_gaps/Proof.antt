@@ -25,8 +25,8 @@ Inv-loop table end even₀ virgins₀ changes₀ keys₀ i₀ even virgins chang
 abbrev μ-loop : tie.MeasureT-loop
 μ-loop table end even₀ virgins₀ changes₀ keys₀ i₀ even virgins changes keys i = end - i
 
-end-of-requires : tie.Need-end-of-requires Inv-loop μ-loop
-end-of-requires c κs = search needs
+places-requires : tie.Need-places-requires Inv-loop μ-loop
+places-requires c κs = search needs
 
 loop-holds : tie.Need-loop-holds Inv-loop μ-loop
 loop-holds c = (omega arith, omega arith, omega arith, refl)
@@ -88,7 +88,7 @@ loop-again c =
       gaps-on
           (now (start .args .table))
           (head .loop .i)
-          (head .before .end-of .result .0)
+          (head .before .places .result)
           (head .loop .even)
           (head .loop .virgins)
           (head .loop .changes)
@@ -99,7 +99,7 @@ loop-again c =
           (grouped .bit-of2 .result)
           (keyed .bit-of3 .result)
           (turn .loop-test .taken)
-          (omega (arith, head .before .end-of .ensures, start .pre .1))
+          (omega (arith, head .before .places .ensures, start .pre .1))
           (read .word-at .ensures)
           (housed .bit-of .ensures .0 ∙ ap bitOf (first .virgin .ensures))
           (grouped .bit-of2 .ensures .0 ∙ ap bitOf (ends .change .ensures))
@@ -113,14 +113,14 @@ returns c =
     let head = c .before in
     let start = head .before .before .before in
     let bs = now (start .args .table) in
-    let end = head .before .end-of .result .0 in
+    let end = head .before .places .result in
     sym
     (gaps-end bs (head .loop .i) end (head .loop .even) (head .loop .virgins) (head .loop .changes) (head .loop .keys)
     (c .loop-test .left))
     ∙ head .loop .inv .3
     ∙ ap
     (gapped _ 0 0 0)
-    (whole-table bs end (places (start .args .sh)) (start .pre .1) (head .before .end-of .ensures))
+    (whole-table bs end (places (start .args .sh)) (start .pre .1) (head .before .places .ensures))
     ∙ gaps-begin (wordsOf bs)
 
 pub check-gaps-spec : {M : Type 1} → statement M
@@ -129,7 +129,7 @@ check-gaps-spec =
     (tie.spec
     Inv-loop
     μ-loop
-    end-of-requires
+    places-requires
     loop-holds
     word-at-requires
     virgin-requires

@@ -8,7 +8,7 @@ use native.Mathlib.Omega.{arith}
 use denote.Ref.{now}
 use lib.Seq.{slice}
 use Rattle.rules.specs.Bytes.{wordsOf}
-use Rattle.rules.specs.Shape.{places}
+use Rattle.rules.specs.Shape.{places, rightGuard}
 use Rattle.table_cluster.specs.Check.{over-small}
 use Rattle.table_list.specs.Scan.{whole-table}
 use Rattle.table_list.specs.Check.{ordered, order-begins, order-on, order-ends}
@@ -26,15 +26,15 @@ Inv-loop sh table end up₀ over₀ i₀ up over i =
 abbrev μ-loop : tie.MeasureT-loop
 μ-loop sh table end up₀ over₀ i₀ up over i = end - i
 
-end-of-requires : tie.Need-end-of-requires Inv-loop μ-loop
-end-of-requires c κs = search needs
+places-requires : tie.Need-places-requires Inv-loop μ-loop
+places-requires c κs = search needs
 
 loop-holds : tie.Need-loop-holds Inv-loop μ-loop
 unfolding places
-loop-holds c = (omega arith, omega arith, omega (arith, c .end-of .ensures), refl)
+loop-holds c = (omega arith, omega arith, omega (arith, c .places .ensures), refl)
 
-sub-t14 : tie.Need-sub-t14 Inv-loop μ-loop
-sub-t14 c = omega arith
+left-of-requires : tie.Need-left-of-requires Inv-loop μ-loop
+left-of-requires c κs = omega arith
 
 word-at-requires : tie.Need-word-at-requires Inv-loop μ-loop
 word-at-requires c κs = omega arith
@@ -55,7 +55,8 @@ loop-again : tie.Need-loop-again Inv-loop μ-loop
 loop-again c =
     let next = c .before in
     let read = next .before in
-    let turn = read .before in
+    let beside = read .before in
+    let turn = beside .before in
     let head = turn .before in
     let start = head .before .before .before in (
       over-small (head .loop .over) (read .word-at .result) (head .loop .inv .0) (omega (arith, read .word-at .ok)),
@@ -65,7 +66,7 @@ loop-again c =
           (start .args .sh)
           (now (start .args .table))
           (head .loop .i)
-          (head .before .end-of .result .0)
+          (head .before .places .result)
           (head .loop .up)
           (head .loop .over)
           (read .word-at .result)
@@ -73,8 +74,8 @@ loop-again c =
           (c .stands .result)
           (head .loop .inv .1)
           (turn .loop-test .taken)
-          (omega (arith, start .pre .1, head .before .end-of .ensures))
-          (read .word-at .ensures)
+          (omega (arith, start .pre .1, head .before .places .ensures))
+          (rw (beside .left-of .ensures) at (read .word-at .ensures))
           (next .word-at2 .ensures)
           (head .loop .inv .0)
           (omega (arith, read .word-at .ok))
@@ -82,10 +83,11 @@ loop-again c =
           ∙ head .loop .inv .3,
     )
 
-sub-low : tie.Need-sub-low Inv-loop μ-loop
-sub-low c = omega arith
+right-guard-requires : tie.Need-right-guard-requires Inv-loop μ-loop
+right-guard-requires c κs = search needs
 
 word-at-requires-3 : tie.Need-word-at-requires-3 Inv-loop μ-loop
+unfolding places rightGuard
 word-at-requires-3 c κs = omega arith
 
 remainder-requires : tie.Need-remainder-requires Inv-loop μ-loop
@@ -103,32 +105,49 @@ is-void-requires c κs = search needs
 lock-requires : tie.Need-lock-requires Inv-loop μ-loop
 lock-requires c κs = search needs
 
+-- the loop ends with the right guard before it
+guard-left :
+    (guard : tie.After-right-guard Inv-loop μ-loop) →
+    guard .right-guard .result .0 ≡ guard .before .before .loop .i - 1
+unfolding places rightGuard
+guard-left guard =
+    let ended = guard .before in
+    let head = ended .before in
+    omega (
+      arith,
+      guard .right-guard .ensures,
+      ended .loop-test .left,
+      head .loop .inv .2,
+      head .before .places .ensures,
+    )
+
 returns : tie.Need-returns Inv-loop μ-loop
 returns c =
     let void = c .before in
     let sized = void .before in
     let reduced = sized .before in
     let read = reduced .before in
-    let ended = read .before in
+    let guard = read .before in
+    let ended = guard .before in
     let head = ended .before in
     let start = head .before .before .before in
     let sh = start .args .sh in
     let bs = now (start .args .table) in
-    let end = head .before .end-of .result .0 in
+    let end = head .before .places .result in
     rw
     (c .lock .ensures, void .is-void .ensures, sized .remainders .ensures, reduced .remainder .ensures)
     (sym
     (order-ends sh bs (head .loop .i) end (head .loop .up) (head .loop .over) (read .word-at3 .result)
     (head .loop .inv .1)
     (omega (arith, ended .loop-test .left, head .loop .inv .2))
-    (omega (arith, start .pre .1, head .before .end-of .ensures))
-    (read .word-at3 .ensures)
+    (omega (arith, start .pre .1, head .before .places .ensures))
+    (rw (guard-left guard) at (read .word-at3 .ensures))
     (head .loop .inv .0)
     (omega (arith, read .word-at3 .ok))))
     ∙ head .loop .inv .3
     ∙ ap
     (ordered sh _ 0)
-    (whole-table bs end (places sh) (start .pre .1) (head .before .end-of .ensures))
+    (whole-table bs end (places sh) (start .pre .1) (head .before .places .ensures))
     ∙ order-begins sh (wordsOf bs)
 
 pub check-order-spec : {M : Type 1} → statement M
@@ -137,16 +156,16 @@ check-order-spec =
     (tie.spec
     Inv-loop
     μ-loop
-    end-of-requires
+    places-requires
     loop-holds
-    sub-t14
+    left-of-requires
     word-at-requires
     word-at-requires-2
     stands-requires
     add-i
     loop-less
     loop-again
-    sub-low
+    right-guard-requires
     word-at-requires-3
     remainder-requires
     cast-low

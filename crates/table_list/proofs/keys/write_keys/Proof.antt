@@ -19,15 +19,20 @@ Inv-loop sh table n slots₀ h₀ p₀ w₀ k₀ slots h p w k = Writing sh tabl
 abbrev μ-loop : tie.MeasureT-loop
 μ-loop sh table n slots₀ h₀ p₀ w₀ k₀ slots h p w k = n - k
 
+left-guard-requires : tie.Need-left-guard-requires Inv-loop μ-loop
+left-guard-requires c κs = search needs
+
 with-change-requires : tie.Need-with-change-requires Inv-loop μ-loop
 with-change-requires c κs = search needs
 
 loop-holds : tie.Need-loop-holds Inv-loop μ-loop
 loop-holds c =
-    write-begins
-    (c .before .before .before .pre)
+    let guard = c .before in
+    rw (guard .left-guard .ensures)
+    (write-begins
+    (guard .before .before .before .pre)
     (c .with-change .result)
-    (ap (λ (w : Word). w .change) (c .with-change .ensures))
+    (ap (λ (w : Word). w .change) (c .with-change .ensures)))
 
 -- a table is not larger than the searches allow
 small : (start : tie.Start Inv-loop μ-loop) → length (now (start .args .table)) ≤ 4294967296
@@ -37,13 +42,13 @@ small start = omega (arith, start .pre .size, homes-high (start .args .sh) (star
 home-after-requires : tie.Need-home-after-requires Inv-loop μ-loop
 home-after-requires c κs =
     let head = c .before in
-    let start = head .before .before .before .before in
+    let start = head .before .before .before .before .before in
     (small start, homed (start .pre) (head .loop .inv) (c .loop-test .taken))
 
 next-key-requires : tie.Need-next-key-requires Inv-loop μ-loop
 next-key-requires c κs =
     let head = c .before .before in
-    let start = head .before .before .before .before in
+    let start = head .before .before .before .before .before in
     (small start, key-inside (start .pre) (head .loop .inv) (c .before .loop-test .taken))
 
 remainder-requires : tie.Need-remainder-requires Inv-loop μ-loop
@@ -55,7 +60,7 @@ join-requires c κs =
     let housed = found .before in
     let turn = housed .before in
     let head = turn .before in
-    let start = head .before .before .before .before in (
+    let start = head .before .before .before .before .before in (
       start .pre .range,
       entry-shaped
           (start .pre)
@@ -74,18 +79,18 @@ join-requires c κs =
 mul-slots : tie.Need-mul-slots Inv-loop μ-loop
 mul-slots c =
     let turn = c .before .before .before .before .before in
-    let start = turn .before .before .before .before .before in
+    let start = turn .before .before .before .before .before .before in
     omega (arith, turn .loop-test .taken, start .pre .room, start .good)
 
 slice-write-slots : tie.Need-slice-write-slots Inv-loop μ-loop
 slice-write-slots c =
     let turn = c .before .before .before .before .before in
-    omega (arith, turn .before .loop .inv .size, turn .before .before .before .before .before .pre .room)
+    omega (arith, turn .before .loop .inv .size, turn .before .before .before .before .before .before .pre .room)
 
 add-k : tie.Need-add-k Inv-loop μ-loop
 add-k c =
     let turn = c .before .before .before .before .before in
-    let start = turn .before .before .before .before .before in
+    let start = turn .before .before .before .before .before .before in
     omega (arith, turn .loop-test .taken, start .pre .room, start .good)
 
 loop-less : tie.Need-loop-less Inv-loop μ-loop
@@ -99,7 +104,7 @@ loop-again c =
     let turn = housed .before in
     let head = turn .before in
     write-on
-    (head .before .before .before .before .pre)
+    (head .before .before .before .before .before .pre)
     (head .loop .inv)
     (turn .loop-test .taken)
     (housed .home-after .result .0)
@@ -119,7 +124,7 @@ same-length c = c .before .loop .inv .size
 returns : tie.Need-returns Inv-loop μ-loop
 returns c =
     let head = c .before in
-    write-ends (head .before .before .before .before .pre) (head .loop .inv) (c .loop-test .left)
+    write-ends (head .before .before .before .before .before .pre) (head .loop .inv) (c .loop-test .left)
 
 pub write-keys-spec : {M : Type 1} → statement M
 write-keys-spec =
@@ -127,6 +132,7 @@ write-keys-spec =
     (tie.spec
     Inv-loop
     μ-loop
+    left-guard-requires
     with-change-requires
     loop-holds
     home-after-requires

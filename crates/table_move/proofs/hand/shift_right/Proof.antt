@@ -3,22 +3,22 @@
 use Prim.Native.Nat.{_-_, _≤_}
 use borrow.Author.Needs.{needs}
 use native.Mathlib.Omega.{arith}
-use Rattle.theory.specs.Motion.{leftward}
+use Rattle.theory.specs.Motion.{Heads, leftward}
 use Rattle.table_move.specs.Carry.{Shifting, shift-on, shift-ends}
 use Rattle.table_move.proofs.hand.shift_right.Statement.{statement}
 use Rattle.table_move.proofs.hand.shift_right.Tie as tie
 
 abbrev Inv-loop : tie.InvT-loop
-Inv-loop table₀ end i₀ table i = Shifting table₀ i₀ end table i × (end ≤ i)
+Inv-loop table₀ goal p₀ table p = Shifting table₀ (p₀ .0) (goal .0) table (p .0) × (goal .0 ≤ p .0)
 
 abbrev μ-loop : tie.MeasureT-loop
-μ-loop table₀ end i₀ table i = i - end
+μ-loop table₀ goal p₀ table p = p .0 - goal .0
 
 loop-holds : tie.Need-loop-holds Inv-loop μ-loop
 loop-holds c = search needs
 
-sub-t11 : tie.Need-sub-t11 Inv-loop μ-loop
-sub-t11 c = search needs
+left-of-requires : tie.Need-left-of-requires Inv-loop μ-loop
+left-of-requires c κs = search needs
 
 word-at-requires : tie.Need-word-at-requires Inv-loop μ-loop
 word-at-requires c κs = search needs
@@ -32,20 +32,35 @@ with-payload-requires c κs = search needs
 set-word-requires : tie.Need-set-word-requires Inv-loop μ-loop
 set-word-requires c κs = search needs
 
-sub-i : tie.Need-sub-i Inv-loop μ-loop
-sub-i c = search needs
-
 loop-less : tie.Need-loop-less Inv-loop μ-loop
 loop-less c = search needs
 
 loop-again : tie.Need-loop-again Inv-loop μ-loop
-loop-again c = search (needs, shift-on, leftward)
+loop-again c =
+    let made = c .before .before .before in
+    let own = made .before .before in
+    let read = own .before .before in
+    let beside = read .before .before in
+    let head = beside .before .before .before .before in
+    let goal = head .before .before .args .goal in
+    let side : Heads (head .loop .p .0) (goal .0) (beside .left-of .result .0) =
+    rw (beside .left-of .ensures) (leftward (beside .before .if1 .taken)) in (
+      shift-on (head .loop .inv .0) _ _ _ _ _ side
+          (read .word-at .ensures)
+          (own .word-at2 .ensures)
+          (made .with-payload .ensures)
+          (search needs)
+          (c .before .before .set-word .ensures),
+      omega (arith, beside .before .if1 .taken, beside .left-of .ensures),
+    )
 
 same-length : tie.Need-same-length Inv-loop μ-loop
 same-length c = search needs
 
 returns : tie.Need-returns Inv-loop μ-loop
-returns c = shift-ends (c .before .loop .inv .0) (omega (arith, c .loop-test .left, c .before .loop .inv .1))
+returns c =
+    let head = c .before .before .before in
+    shift-ends (head .loop .inv .0) (omega (arith, c .if1 .left, head .loop .inv .1))
 
 pub shift-right-spec : {M : Type 1} → statement M
 shift-right-spec =
@@ -54,12 +69,11 @@ shift-right-spec =
     Inv-loop
     μ-loop
     loop-holds
-    sub-t11
+    left-of-requires
     word-at-requires
     word-at-requires-2
     with-payload-requires
     set-word-requires
-    sub-i
     loop-less
     loop-again
     same-length

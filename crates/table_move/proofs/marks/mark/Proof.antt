@@ -31,9 +31,9 @@ returns c =
 set-change-requires-2 : tie.Need-set-change-requires-2
 set-change-requires-2 c κs = search needs
 
-sub-t17 : tie.Need-sub-t17
-sub-t17 c =
-    let second = c .before .before .before .before .before .before in
+left-of-requires : tie.Need-left-of-requires
+left-of-requires c κs =
+    let second = c .before .before .before .before .before in
     omega (arith, second .before .before .before .pre .1 .1 (second .if2 .taken))
 
 set-change-requires-3 : tie.Need-set-change-requires-3
@@ -54,6 +54,7 @@ returns-2 c =
       ne-eqb (start .args .mark) 2 (first .if1 .left),
       eq-eqb (start .args .mark) 1 (second .if2 .taken),
       last .set-change3 .ensures,
+      last .before .left-of .ensures,
       goal .set-change2 .ensures,
     )
 
@@ -73,7 +74,7 @@ mark-spec =
     same-length
     returns
     set-change-requires-2
-    sub-t17
+    left-of-requires
     set-change-requires-3
     same-length-2
     returns-2

@@ -24,14 +24,19 @@ Inv-loop table k end left₀ i₀ left i =
 abbrev μ-loop : tie.MeasureT-loop
 μ-loop table k end left₀ i₀ left i = i
 
-sub-i : tie.Need-sub-i Inv-loop μ-loop
-sub-i c = omega arith
+left-of-requires : tie.Need-left-of-requires Inv-loop μ-loop
+left-of-requires c κs = omega arith
+
+-- the home is right of where the way begins
+home :
+    (beside : tie.After-left-of Inv-loop μ-loop) →
+    beside .left-of .result .0 + 1 ≡ beside .before .before .args .h .0
+home beside = omega (arith, beside .left-of .ensures, beside .before .before .pre .0)
 
 loop-holds : tie.Need-loop-holds Inv-loop μ-loop
 loop-holds c =
     let start = c .before .before in
-    let last : start .args .h .0 - 1 + 1 ≡ start .args .h .0 = omega (arith, start .pre .0) in
-    (omega (arith, start .pre .0), omega arith, rw last (start .pre .1 .1), refl)
+    (omega (arith, start .pre .0, home c), omega arith, rw (home c) (start .pre .1 .1), refl)
 
 word-at-requires : tie.Need-word-at-requires Inv-loop μ-loop
 word-at-requires c κs = omega arith
@@ -39,18 +44,19 @@ word-at-requires c κs = omega arith
 change-requires : tie.Need-change-requires Inv-loop μ-loop
 change-requires c κs = search needs
 
-add-t13 : tie.Need-add-t13 Inv-loop μ-loop
-add-t13 c = omega arith
+right-of-requires : tie.Need-right-of-requires Inv-loop μ-loop
+right-of-requires c κs = omega arith
 
 returns : tie.Need-returns Inv-loop μ-loop
 returns c =
-    let tested = c .before .before in
+    let test = c .before in
+    let tested = test .before .before in
     let read = tested .before in
     let head = read .before .before in
     let start = head .before .before .before in
     let bs = now (start .args .table) in
-    let last : start .args .h .0 - 1 + 1 ≡ start .args .h .0 = omega (arith, start .pre .0) in
-    back-stop
+    c .right-of .ensures
+    ∙ back-stop
     bs
     (start .args .l .0 + 1)
     (head .loop .i)
@@ -60,15 +66,15 @@ returns c =
     1
     (head .loop .left)
     (read .word-at .ensures)
-    (sym (ap bitOf (sym (tested .change .ensures) ∙ c .before .if1 .taken)))
-    (omega (arith, c .if2 .taken))
-    ∙ ap (λ (n : ℕ). start .args .l .0 + 1 + n) (rw last at (head .loop .inv .3))
+    (sym (ap bitOf (sym (tested .change .ensures) ∙ test .before .if1 .taken)))
+    (omega (arith, test .if2 .taken))
+    ∙ ap (λ (n : ℕ). start .args .l .0 + 1 + n) (rw (home (head .before)) at (head .loop .inv .3))
 
 sub-left : tie.Need-sub-left Inv-loop μ-loop
 sub-left c = omega arith
 
-sub-i-2 : tie.Need-sub-i-2 Inv-loop μ-loop
-sub-i-2 c = omega arith
+sub-i : tie.Need-sub-i Inv-loop μ-loop
+sub-i c = omega arith
 
 loop-less : tie.Need-loop-less Inv-loop μ-loop
 loop-less c = omega arith
@@ -99,8 +105,8 @@ loop-again c =
     (head .loop .inv .2) in
     (omega arith, omega arith, rw here (on .0), rw here (on .1) ∙ head .loop .inv .3)
 
-sub-i-3 : tie.Need-sub-i-3 Inv-loop μ-loop
-sub-i-3 c = omega arith
+sub-i-2 : tie.Need-sub-i-2 Inv-loop μ-loop
+sub-i-2 c = omega arith
 
 loop-less-2 : tie.Need-loop-less-2 Inv-loop μ-loop
 loop-less-2 c = omega arith
@@ -131,18 +137,18 @@ loop-again-2 c =
     (head .loop .inv .2) in
     (omega arith, omega arith, rw here (rw all at (on .0)), rw here (rw all at (on .1)) ∙ head .loop .inv .3)
 
-add-t14 : tie.Need-add-t14 Inv-loop μ-loop
-add-t14 c = omega arith
+right-of-requires-2 : tie.Need-right-of-requires-2 Inv-loop μ-loop
+right-of-requires-2 c κs = omega arith
 
 returns-2 : tie.Need-returns-2 Inv-loop μ-loop
 returns-2 c =
-    let head = c .before in
+    let head = c .before .before in
     let start = head .before .before .before in
-    let last : start .args .h .0 - 1 + 1 ≡ start .args .h .0 = omega (arith, start .pre .0) in
-    back-end (now (start .args .table)) (start .args .l .0) (head .loop .i) (head .loop .left)
+    c .right-of2 .ensures
+    ∙ back-end (now (start .args .table)) (start .args .l .0) (head .loop .i) (head .loop .left)
     (head .loop .inv .0)
-    (c .loop-test .left)
-    ∙ ap (λ (n : ℕ). start .args .l .0 + 1 + n) (rw last at (head .loop .inv .3))
+    (c .before .loop-test .left)
+    ∙ ap (λ (n : ℕ). start .args .l .0 + 1 + n) (rw (home (head .before)) at (head .loop .inv .3))
 
 pub pass-back-spec : {M : Type 1} → statement M
 pass-back-spec =
@@ -150,18 +156,18 @@ pass-back-spec =
     (tie.spec
     Inv-loop
     μ-loop
-    sub-i
+    left-of-requires
     loop-holds
     word-at-requires
     change-requires
-    add-t13
+    right-of-requires
     returns
     sub-left
-    sub-i-2
+    sub-i
     loop-less
     loop-again
-    sub-i-3
+    sub-i-2
     loop-less-2
     loop-again-2
-    add-t14
+    right-of-requires-2
     returns-2)

@@ -12,6 +12,9 @@ mul-result c = search needs
 bit-of-requires : tie.Need-bit-of-requires
 bit-of-requires c κs = search needs
 
+cast-result : tie.Need-cast-result
+cast-result c = search needs
+
 mul-result-2 : tie.Need-mul-result-2
 mul-result-2 c = search needs
 
@@ -26,4 +29,4 @@ returns c = let w = c .before .args .w in with-change w (c .before .fits .w .fit
 
 pub with-change-spec : {M : Type 1} → statement M
 with-change-spec =
-    tie.close (tie.spec mul-result bit-of-requires mul-result-2 add-result add-result-2 returns)
+    tie.close (tie.spec mul-result bit-of-requires cast-result mul-result-2 add-result add-result-2 returns)

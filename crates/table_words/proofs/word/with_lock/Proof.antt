@@ -9,6 +9,9 @@ use Rattle.table_words.proofs.word.with_lock.Tie as tie
 bit-of-requires : tie.Need-bit-of-requires
 bit-of-requires c κs = search needs
 
+cast-result : tie.Need-cast-result
+cast-result c = search needs
+
 mul-result : tie.Need-mul-result
 mul-result c = search needs
 
@@ -19,4 +22,4 @@ returns : tie.Need-returns
 returns c = let w = c .before .args .w in with-lock w (c .before .fits .w .fits) (c .before .args .b) _ (omega arith)
 
 pub with-lock-spec : {M : Type 1} → statement M
-with-lock-spec = tie.close (tie.spec bit-of-requires mul-result add-result returns)
+with-lock-spec = tie.close (tie.spec bit-of-requires cast-result mul-result add-result returns)

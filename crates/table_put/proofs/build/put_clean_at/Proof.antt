@@ -15,8 +15,8 @@ use Rattle.table_read.specs.Read.{entry}
 use Rattle.table_find.specs.Around.{Open, open-guards, left-free}
 use Rattle.table_put.specs.Filling.{clean-open}
 use Rattle.table_put.specs.Putting.{put-alone}
-use Rattle.table_put.proofs.put.put_clean_at.Statement.{statement}
-use Rattle.table_put.proofs.put.put_clean_at.Tie as tie
+use Rattle.table_put.proofs.build.put_clean_at.Statement.{statement}
+use Rattle.table_put.proofs.build.put_clean_at.Tie as tie
 
 -- the home's bit, as it was tested
 home-bit :

@@ -1,8 +1,8 @@
 -- `put_alone` meets its contract: one word is written.
 -- Assumes nothing.
 use borrow.Author.Needs.{needs}
-use Rattle.table_put.proofs.put.put_alone.Statement.{statement}
-use Rattle.table_put.proofs.put.put_alone.Tie as tie
+use Rattle.table_put.proofs.adding.put_alone.Statement.{statement}
+use Rattle.table_put.proofs.adding.put_alone.Tie as tie
 
 alone-word-requires : tie.Need-alone-word-requires
 alone-word-requires c κs = search needs

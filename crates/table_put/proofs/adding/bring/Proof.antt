@@ -2,8 +2,8 @@
 -- Assumes nothing.
 use borrow.Author.Needs.{needs}
 use Rattle.theory.specs.Motion.{finish}
-use Rattle.table_put.proofs.put.bring.Statement.{statement}
-use Rattle.table_put.proofs.put.bring.Tie as tie
+use Rattle.table_put.proofs.adding.bring.Statement.{statement}
+use Rattle.table_put.proofs.adding.bring.Tie as tie
 
 fill-at-requires : tie.Need-fill-at-requires
 fill-at-requires c κs = search needs

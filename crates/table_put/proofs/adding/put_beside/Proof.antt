@@ -13,8 +13,8 @@ use Rattle.table_read.specs.declared.read.Read.{Read}
 use Rattle.table_find.specs.Around.{Inside, cluster-inside, read-beside, beside-cluster}
 use Rattle.table_find.specs.Key.{home-place}
 use Rattle.table_put.specs.Putting.{put-inside, ready}
-use Rattle.table_put.proofs.put.put_beside.Statement.{statement}
-use Rattle.table_put.proofs.put.put_beside.Tie as tie
+use Rattle.table_put.proofs.adding.put_beside.Statement.{statement}
+use Rattle.table_put.proofs.adding.put_beside.Tie as tie
 
 inside : (start : tie.Start) → Inside (start .args .sh) (wordsOf (now (start .args .table))) (start .args .h .0)
 inside start =

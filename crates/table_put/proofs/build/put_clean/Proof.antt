@@ -8,8 +8,8 @@ use Rattle.rules.specs.Entry.{Entry}
 use Rattle.rules.specs.Put.{putIn}
 use Rattle.table_find.specs.Key.{key-entry, key-shape}
 use Rattle.table_put.specs.Putting.{wordsLeft}
-use Rattle.table_put.proofs.put.put_clean.Statement.{statement}
-use Rattle.table_put.proofs.put.put_clean.Tie as tie
+use Rattle.table_put.proofs.build.put_clean.Statement.{statement}
+use Rattle.table_put.proofs.build.put_clean.Tie as tie
 
 home-place-requires : tie.Need-home-place-requires
 home-place-requires c κs = search needs
