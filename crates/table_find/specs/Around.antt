@@ -4,7 +4,7 @@
 -- Assumes nothing.
 use Prim.Native.Nat.{ℕ, suc, _+_, _*_, _≤_, _<_}
 use mathlib.Core.Path.{_≡_, refl, sym, _∙_, ap, ap₂}
-use mathlib.Core.Bool.{Bool, true, false, _&&_, _||_}
+use mathlib.Core.Bool.{Bool, true, false, _&&_, or-false}
 use mathlib.Core.List.{List, []}
 use native.Mathlib.Numerals.{add-one}
 use native.Mathlib.Omega.{arith}
@@ -24,7 +24,7 @@ use Rattle.table_words.specs.Layout.{words-length}
 use Rattle.theory.specs.Gaps.{HomePlace}
 use Rattle.theory.specs.Dealt.{isVirgin, isChange, and-left, and-right}
 use Rattle.theory.specs.Cut.{CutHome, cut-home}
-use Rattle.theory.specs.Places.{occupied-at, occupied-length, void-free}
+use Rattle.theory.specs.Places.{left-free, occupied-at, occupied-length}
 use Rattle.table_cluster.specs.Homes.{Housed, sound-housed}
 use Rattle.table_cluster.specs.Scan.{left-stop, right-stop}
 use Rattle.table_read.specs.Read.{readOf}
@@ -43,10 +43,6 @@ pub record Open (sh : Shape) (ws : List Word) (homeAt : ℕ) : Type 0 where
 pub open-guards : {sh : Shape} {ws : List Word} {homeAt : ℕ} → Open sh ws homeAt → guardsVoid sh ws ≡ true
 unfolding soundAround
 open-guards {sh} {ws} o = and-left (guardsVoid sh ws) _ (and-left (guardsVoid sh ws && _) _ (o .sound))
-
-pub left-free : (sh : Shape) (ws : List Word) → guardsVoid sh ws ≡ true → at ws 0 .occupied ≡ false
-unfolding guardsVoid
-left-free sh ws void = void-free (at ws 0) (and-left (isVoid (at ws 0)) _ void)
 
 module _ (sh : Shape) (ws : List Word) (homeAt : ℕ) where
   pub around-barred : guardsVoid sh ws ≡ false → soundAround sh ws homeAt ≡ false
@@ -95,11 +91,7 @@ module _ (sh : Shape) (ws : List Word) (homeAt : ℕ) where
             slice-cons homeAt (suc homeAt) ws zeroWord (omega arith) (omega (arith, size, h .last)),
             slice-empty (suc homeAt) ws,
           )
-          (once (at ws homeAt .lock))
-        where
-          once : (l : Bool) → (l || false) ≡ l
-          once true = refl
-          once false = refl
+          (or-false (at ws homeAt .lock))
 
       pub alone-entries : clusterEntries ws homeAt ≡ []
       unfolding clusterEntries entriesBetween deal

@@ -11,7 +11,7 @@ use Rattle.rules.specs.Table.{at}
 use Rattle.table_words.specs.Layout.{words-length}
 use Rattle.theory.specs.Dealt.{isOccupied}
 use Rattle.table_read.specs.Read.{entry}
-use Rattle.table_find.specs.Key.{home-place}
+use Rattle.theory.specs.Keys.{home-place}
 use Rattle.table_find.specs.Finding.{aloneSays, found-barred, found-alone}
 use Rattle.table_find.proofs.find.find_at.Statement.{statement}
 use Rattle.table_find.proofs.find.find_at.Tie as tie

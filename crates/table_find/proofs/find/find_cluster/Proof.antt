@@ -10,7 +10,7 @@ use Rattle.table_read.specs.declared.read.Read.{Read}
 use Rattle.table_find.specs.Around.{Crowded, home-inside, left-open, table-small, gap-inside, ends-apart, end-inside}
 use Rattle.table_find.specs.Around.{virgins-counted, changes-counted, told-sound, told-locked, told-open}
 use Rattle.table_find.specs.Around.{crowded-inside, read-beside, beside-cluster}
-use Rattle.table_find.specs.Key.{home-place}
+use Rattle.theory.specs.Keys.{home-place}
 use Rattle.table_find.specs.Finding.{found-unsound, found-locked, found-inside}
 use Rattle.table_find.proofs.find.find_cluster.Statement.{statement}
 use Rattle.table_find.proofs.find.find_cluster.Tie as tie

@@ -12,7 +12,8 @@ use Rattle.table_words.specs.Range.{remainders-high}
 use Rattle.table_words.specs.Layout.{words-length}
 use Rattle.theory.specs.Dealt.{isOccupied}
 use Rattle.table_read.specs.Read.{entry}
-use Rattle.table_find.specs.Around.{Open, open-guards, left-free}
+use Rattle.theory.specs.Places.{left-free}
+use Rattle.table_find.specs.Around.{Open, open-guards}
 use Rattle.table_put.specs.Filling.{clean-open}
 use Rattle.table_put.specs.Putting.{put-alone}
 use Rattle.table_put.proofs.put.put_clean_at.Statement.{statement}

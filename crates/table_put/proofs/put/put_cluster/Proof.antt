@@ -8,7 +8,7 @@ use Rattle.table_words.specs.Layout.{words-length}
 use Rattle.table_read.specs.Read.{entry}
 use Rattle.table_find.specs.Around.{Crowded, home-inside, left-open, table-small, gap-inside, ends-apart, end-inside}
 use Rattle.table_find.specs.Around.{virgins-counted, changes-counted, told-sound, told-locked, told-open}
-use Rattle.table_find.specs.Key.{home-place}
+use Rattle.theory.specs.Keys.{home-place}
 use Rattle.table_put.specs.Putting.{put-unsound, put-locked}
 use Rattle.table_put.proofs.put.put_cluster.Statement.{statement}
 use Rattle.table_put.proofs.put.put_cluster.Tie as tie
