@@ -31,15 +31,13 @@ use Rattle.theory.specs.Putting.{Puts, found, inserted, overflow, put-table, ta
 use Rattle.theory.specs.Insert.{same-eq, same-refl, holds-insert}
 use Rattle.theory.specs.Building.{State, state-unique, place≢full, added-state}
 use Rattle.theory.specs.Adding.{Added}
-use Rattle.theory.specs.Keys.{table-inside, asc-in-shape, keys-ascend, Ascending, listed, listed-holds}
+use Rattle.theory.specs.Keys.{home-place, table-inside, asc-in-shape, keys-ascend, Ascending, listed, listed-holds}
 use Rattle.demands.specs.Terms.{SoundTable, PlainTable, listOf, Adds}
 use Rattle.demands.specs.Tables.{in-range-of, low-of, size-of, table-of, state-of}
 use Rattle.demands.specs.Tables.{words-back, plain-of, entries-back}
 
 pub home-of-key : (sh : Shape) (key : ℕ) → key < keys sh → HomePlace sh (split sh key .homePlace)
-home-of-key sh key lt =
-    let i = split-in-shape sh key lt in
-    record { first = i .home-low; last = i .home-high }
+home-of-key sh key lt = home-place (split-in-shape sh key lt)
 
 -- the entries are the keys of the list, split
 pub split-keys : (sh : Shape) {es : List Entry} → All (InShape sh) es → map (split sh) (map (join sh) es) ≡ es

@@ -3,7 +3,7 @@
 use Prim.Native.Nat.{ℕ, zero, suc, _+_, _*_, _≤_, _<_}
 use mathlib.Core.Path.{_≡_, refl, sym, ap, ap₂, _∙_, subst}
 use mathlib.Core.Bool.{Bool, true, false, cond, _||_, true≢false}
-use mathlib.Core.List.{List, [], _∷_, _++_, map}
+use mathlib.Core.List.{List, [], _∷_, _++_, map, map-append}
 use native.Mathlib.Omega.{arith}
 use lib.ListN.{length, replicate, length-replicate}
 use lib.Dec.{ltb}
@@ -20,7 +20,8 @@ use Rattle.rules.specs.Answer.{Answer, says, refuses, Leaves, leaves}
 use Rattle.rules.specs.Put.{layRun, Outcome, keeps, putIn, wordsAfter, put}
 use Rattle.rules.specs.Build.{zeros, puts, tooMany, buildIn, build}
 use Rattle.table_words.specs.Range.{InRange, good-table, remainders-high}
-use Rattle.table_words.specs.Split.{InShape, split-in-shape, split-join, join-below}
+use Rattle.table_words.specs.All.{all-append}
+use Rattle.table_words.specs.Split.{InShape, split-join, join-below}
 use Rattle.table_words.specs.Layout.{same-bytes, bytes-are}
 use Rattle.theory.specs.Run.{none}
 use Rattle.theory.specs.Dealt.{and-left, and-right, and-both, or-left, or-right}
@@ -30,7 +31,7 @@ use Rattle.theory.specs.Insert.{Within, ascend-asc, ascend-same, holds-ascend, 
 use Rattle.theory.specs.Seen.{Right, right-end, right-more, Table, table}
 use Rattle.theory.specs.Putting.{Puts, found, inserted, overflow}
 use Rattle.theory.specs.Building.{Roomy, State, Inside, after-put, added-state, puts-ascend, Left, puts-state}
-use Rattle.theory.specs.Keys.{table-inside, within-in-shape, Ascending, ascending-none, ascending-next, listed}
+use Rattle.theory.specs.Keys.{table-inside, within-in-shape, split-within, Ascending, ascending-none, ascending-next, listed}
 use Rattle.demands.specs.Terms.{PlainTable, listOf, InKeys, entriesOf, distinct, putAll, left-by, Builds}
 use Rattle.demands.specs.Tables.{in-range-of, low-of, state-of}
 use Rattle.demands.specs.Tables.{words-back, plain-of, entries-back}
@@ -75,12 +76,6 @@ zeros-state sh =
     far = omega arith
 
 -- ---- keys and their entries
-split-within : (sh : Shape) (key : ℕ) → key < keys sh → Within (remainders sh) (rightGuard sh) 4096 (split sh key)
-unfolding rightGuard
-split-within sh key lt =
-    let i = split-in-shape sh key lt in
-    record { above = omega (arith, i .home-low); low = i .remainder-low; inside = omega (arith, i .home-high) }
-
 pub all-within :
     (sh : Shape) (ks : List ℕ) → InKeys sh ks → All (Within (remainders sh) (rightGuard sh) 4096) (entriesOf sh ks)
 unfolding all
@@ -386,14 +381,10 @@ put-all-plain {sh} {bytes} (key ∷ ks) t h =
 
 -- ---- puts in any order
 pub map-both : (sh : Shape) (ks js : List ℕ) → entriesOf sh (ks ++ js) ≡ entriesOf sh ks ++ entriesOf sh js
-map-both sh [] js = refl
-map-both sh (k ∷ ks) js = ap (λ (es : List Entry). split sh k ∷ es) (map-both sh ks js)
+map-both sh ks js = map-append (split sh) ks js
 
 pub all-both : (sh : Shape) (ks js : List ℕ) → InKeys sh ks → InKeys sh js → InKeys sh (ks ++ js)
-unfolding all
-all-both sh [] js h k = k
-all-both sh (x ∷ ks) js h k =
-    and-both _ _ (and-left (ltb x (keys sh)) _ h) (all-both sh ks js (and-right (ltb x (keys sh)) _ h) k)
+all-both sh ks js h k = all-append (λ (key : ℕ). ltb key (keys sh)) ks js ∙ and-both _ _ h k
 
 pub puts-order :
     {sh : Shape} {bytes : List ℕ} (ks js : List ℕ) →

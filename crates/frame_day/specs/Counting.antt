@@ -4,32 +4,17 @@
 use Prim.Native.Nat.{ℕ, zero, suc, _+_, _≤_, _<_}
 use mathlib.Core.Path.{_≡_, refl, sym, ap, ap₂, _∙_}
 use mathlib.Core.Bool.{Bool, true, false, _&&_, true≢false}
-use mathlib.Core.List.{List, [], _∷_, _++_, map}
+use mathlib.Core.List.{List, [], _∷_, map}
 use native.Mathlib.Omega.{arith}
 use lib.ListN.{length, getD, set, replicate}
-use lib.Dec.{eqb}
-use borrow.Author.Tests.{eqb-true, eqb-false, eq-eqb, ne-eqb}
 use Rattle.rules.specs.Lists.{bitOf, count}
 use Rattle.theory.specs.Every as every
 use Rattle.theory.specs.Every.{All}
 use Rattle.together.specs.Machine.{Said}
 use Rattle.frame_day.specs.Terms.{paired, keysIn, answeredSo}
 
--- ---- a test of two numbers either way
-pub eqb-sym : (a b : ℕ) → eqb a b ≡ eqb b a
-eqb-sym a b = go (eqb b a) refl
-  where
-    go : (c : Bool) → eqb b a ≡ c → eqb a b ≡ c
-    go true e = eq-eqb a b (sym (eqb-true b a e))
-    go false e = ne-eqb a b (λ same. eqb-false b a e (sym same))
-
 -- ---- counts and what they say of every element
 module _ {A : Type 0} where
-  pub count-append : (p : A → Bool) (xs ys : List A) → count p (xs ++ ys) ≡ count p xs + count p ys
-  unfolding count
-  count-append p [] ys = omega arith
-  count-append p (x ∷ xs) ys = omega (arith, count-append p xs ys)
-
   pub count-map :
       {B : Type 0} (g : B → A) (p : A → Bool) (xs : List B) → count p (map g xs) ≡ count (λ (x : B). p (g x)) xs
   unfolding count

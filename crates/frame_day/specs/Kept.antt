@@ -5,7 +5,7 @@ use Prim.Native.Nat.{ℕ, _+_, _*_, _≤_}
 use mathlib.Core.Path.{_≡_, refl, sym, ap, _∙_, subst}
 use mathlib.Core.Logic.{_≢_}
 use mathlib.Core.Bool.{Bool, true, false, cond, _&&_, _||_, false≢true}
-use mathlib.Core.List.{List, [], _∷_, _++_}
+use mathlib.Core.List.{List, [], _∷_, _++_, map-append}
 use native.Mathlib.Omega.{arith}
 use lib.ListN.{length, drop, replicate}
 use lib.Seq.{take-at}
@@ -18,10 +18,10 @@ use Rattle.rules.specs.Answer.{says, leaves}
 use Rattle.rules.specs.Put.{put}
 use Rattle.rules.specs.Build.{build}
 use Rattle.table_words.specs.Range.{good-table}
+use Rattle.table_words.specs.Counts.{count-append}
 use Rattle.theory.specs.Every as every
 use Rattle.theory.specs.Every.{All}
 use Rattle.theory.specs.Dealt.{or-left, or-right}
-use Rattle.theory.specs.Joined.{map-append}
 use Rattle.theory.specs.Keys.{listed}
 use Rattle.demands.specs.Terms.{PlainTable, InKeys, listOf, distinct, left-by, putAll}
 use Rattle.demands.specs.Tables.{low-of}
@@ -36,7 +36,7 @@ use Rattle.frame_rules.specs.Frame.{used, usedPart, withUsed}
 use Rattle.together.specs.Machine.{Said, timesInserted}
 use Rattle.together.specs.Demand3.{wasInserted}
 use Rattle.frame_day.specs.Terms.{paired, keysIn, insertedIn, Follows}
-use Rattle.frame_day.specs.Counting.{count-append, paired-parts}
+use Rattle.frame_day.specs.Counting.{paired-parts}
 use Rattle.frame_day.specs.Line.{line-plain, line-known, line-lists, line-once, line-new}
 use Rattle.frame_day.specs.Room.{listed-append, distinct-fewer, inserted-listed, line-none-full, line-every-listed}
 use Rattle.frame_day.specs.Room.{line-bytes, inserted-times, inserted-in}

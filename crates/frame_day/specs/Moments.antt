@@ -3,14 +3,13 @@
 -- Assumes nothing.
 use Prim.Native.Nat.{ℕ, zero, suc, _+_, _≤_, _<_}
 use mathlib.Core.Path.{_≡_, refl, sym, ap, _∙_, subst}
-use mathlib.Core.Logic.{_⊎_, inl, inr}
-use mathlib.Core.Bool.{Bool, true, false, cond, _&&_, _||_, false≢true}
+use mathlib.Core.Logic.{inl, inr}
+use mathlib.Core.Bool.{Bool, true, false, cond}
 use mathlib.Core.List.{List, [], _∷_, _++_}
 use native.Mathlib.Omega.{arith}
 use lib.ListN.{length, getD, set, replicate, length-set, length-replicate}
 use lib.Dec.{eqb, leb, ltb}
 use borrow.Author.Tests.{le-leb, leb-true, lt-ltb, ltb-true}
-use Rattle.rules.specs.declared.Shape.{Shape}
 use Rattle.rules.specs.declared.Task.{Task}
 use Rattle.rules.specs.Lists.{count, all}
 use Rattle.rules.specs.Bytes.{wordsOf, bytesOf}
@@ -19,8 +18,13 @@ use Rattle.rules.specs.Answer.{says, leaves}
 use Rattle.rules.specs.Record.{within, busy, atRest, fitsBusy, fits}
 use Rattle.rules.specs.Give.{given, giveTo, give}
 use Rattle.rules.specs.Record.{noTask, taskAt, goodTask}
+use Rattle.rules.specs.Record.{busy, atRest}
+use Rattle.rules.specs.Give.{given, giveTo, give}
+use Rattle.rules.specs.Record.{noTask, taskAt, goodTask}
 use Rattle.rules.specs.Step.{lentAfter, step}
 use Rattle.table_words.specs.Range.{good-table, remainders-high, range-in}
+use Rattle.table_words.specs.All.{all-at}
+use Rattle.table_words.specs.Busy.{rest-not-busy, fits-works}
 use Rattle.theory.specs.Dealt.{and-left, and-right, and-both}
 use Rattle.demands.specs.Terms.{PlainTable, InKeys}
 use Rattle.frame_rules.specs.declared.First.{First}
@@ -32,7 +36,7 @@ use Rattle.together.specs.Update.{task-same}
 use Rattle.together.specs.Fitting.{stage-fits}
 use Rattle.together.specs.Walk.{Walked, Answered, says-full, says-shown}
 use Rattle.together.specs.Course.{walk}
-use Rattle.together.specs.History.{heard, rest-phase}
+use Rattle.together.specs.History.{heard}
 use Rattle.together.specs.Fair.{Fair, fair-begin, fair-course}
 use Rattle.frame_day.specs.Terms.{Follows}
 use Rattle.frame_day.specs.Tally.{Tally, beside-start, took, beside-take, stepped, beside-step}
@@ -76,30 +80,9 @@ moment-follows {f} {bytes} {ks} {floor} now =
     }
 
 -- ---- one task's give and step
-rest-not-busy : (t : Task) → atRest t ≡ true → busy t ≡ false
-unfolding busy
-rest-not-busy t rest = go (rest-phase t rest)
-  where
-    go : (t .phase ≡ 0) ⊎ (t .phase ≡ 13) → within 1 12 (t .phase) ≡ false
-    go (inl e) = ap (within 1 12) e
-    go (inr e) = ap (within 1 12) e
-
--- who fits and is not at rest is in phases 1 to 12
-fits-works : (sh : Shape) (t : Task) → fits sh t ≡ true → atRest t ≡ false → busy t ≡ true
-unfolding fits
-fits-works sh t h works = go (atRest t) (busy t) works h
-  where
-    go : (a c : Bool) → a ≡ false → (a || (c && fitsBusy sh t)) ≡ true → c ≡ true
-    go true c e k = absurd (false≢true (sym e))
-    go false true e k = refl
-    go false false e k = k
-
 in-keys-at :
     (ks : List ℕ) (n j : ℕ) → all (λ (key : ℕ). ltb key n) ks ≡ true → j < length ks → getD ks j 0 < n
-unfolding all
-in-keys-at [] n j h lt = absurd (omega arith)
-in-keys-at (k ∷ ks) n zero h lt = ltb-true k n (and-left (ltb k n) _ h)
-in-keys-at (k ∷ ks) n (suc j) h lt = in-keys-at ks n j (and-right (ltb k n) _ h) (omega arith)
+in-keys-at ks n j h lt = ltb-true _ n (all-at (λ (key : ℕ). ltb key n) ks j 0 h lt)
 
 module _ (f : First) {bytes : List ℕ} (ks : List ℕ) (t : PlainTable (f .shape) bytes) (few : f .tasks ≤ 16)
     (h : InKeys (f .shape) ks)
@@ -181,8 +164,8 @@ module _ (f : First) {bytes : List ℕ} (ks : List ℕ) (t : PlainTable (f .shap
         busy-now : busy (taskAt (floor .tasks) i) ≡ true
         busy-now =
             fits-works
-            (f .shape)
             (taskAt (floor .tasks) i)
+            (f .shape)
             (stage-fits
             {ws = wordsOf (floor .table)}
             {shown = fair .shown}
@@ -190,6 +173,7 @@ module _ (f : First) {bytes : List ℕ} (ks : List ℕ) (t : PlainTable (f .shap
             (taskAt (floor .tasks) i)
             (fair .inv .stage i here))
             works
+            .0
 
         walked : Walked (f .shape) (wordsOf (floor .table)) (floor .tasks) (fair .laid) (fair .shown) i
         unfolding busy

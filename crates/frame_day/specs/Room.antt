@@ -17,6 +17,8 @@ use Rattle.rules.specs.Shape.{homes, remainders, keys}
 use Rattle.rules.specs.Entry.{Entry, join}
 use Rattle.rules.specs.Lay.{holds, ascend}
 use Rattle.rules.specs.Record.{noTask}
+use Rattle.rules.specs.Record.{noTask}
+use Rattle.table_words.specs.Tests.{eqb-sym}
 use Rattle.theory.specs.Every.{All}
 use Rattle.theory.specs.Insert.{ascend-asc, holds-ascend}
 use Rattle.theory.specs.Dealt.{and-left, and-right, and-both, or-left, or-right}
@@ -32,7 +34,7 @@ use Rattle.together.specs.Machine.{Said, timesInserted}
 use Rattle.together.specs.Demand3 as demand-3
 use Rattle.together.specs.Demand3.{wasInserted}
 use Rattle.frame_day.specs.Terms.{paired, keysIn, insertedIn, Follows}
-use Rattle.frame_day.specs.Counting.{eqb-sym, paired-parts}
+use Rattle.frame_day.specs.Counting.{paired-parts}
 use Rattle.frame_day.specs.Moments.{idle-tasks}
 use Rattle.frame_day.specs.Line.{all-alike, answers-alike, keys-alike, inserted-alike, done, no-more, after}
 use Rattle.frame_day.specs.Line.{line-lists, line-new}

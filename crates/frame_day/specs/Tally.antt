@@ -16,13 +16,17 @@ use Rattle.rules.specs.Lists.{bitOf, count}
 use Rattle.rules.specs.Record.{atRest}
 use Rattle.rules.specs.Give.{given}
 use Rattle.rules.specs.Record.{noTask, taskAt}
+use Rattle.rules.specs.Give.{given}
+use Rattle.rules.specs.Record.{noTask, taskAt}
+use Rattle.table_words.specs.Counts.{count-append}
 use Rattle.frame_rules.specs.Rounds.{Floor, start}
+use Rattle.theory.specs.Dealt.{or-right}
 use Rattle.together.specs.Machine.{Said}
 use Rattle.together.specs.History.{heard}
 use Rattle.together.specs.Update.{task-same, task-other, same-or-not}
 use Rattle.together.specs.Facts.{in-order}
 use Rattle.frame_day.specs.Terms.{paired, answeredSo}
-use Rattle.frame_day.specs.Counting.{count-append, paired-set, paired-start}
+use Rattle.frame_day.specs.Counting.{paired-set, paired-start}
 
 -- a busy task works on the key whose number it holds, which is taken and not yet answered
 pub record Hand (ks answers : List ℕ) (taken h : ℕ) (t : Task) : Type 0 where
@@ -278,11 +282,7 @@ module _ {ks : List ℕ} {f : Floor} {accepted : List ℕ} {said : List Said} (b
 
       at-rest : atRest t ≡ true
       unfolding atRest
-      at-rest = or-true (eqb (t .phase) 0) done
-        where
-          or-true : (a : Bool) {c : Bool} → c ≡ true → (a || c) ≡ true
-          or-true true e = refl
-          or-true false e = e
+      at-rest = or-right (eqb (t .phase) 0) _ done
 
       hand-done :
           (j : ℕ) →

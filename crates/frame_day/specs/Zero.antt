@@ -1,20 +1,21 @@
 -- The table that is all zero: it is sound and without locks, and lists nothing (it is the build of nothing).
 -- Its used part, of the 32,772 bytes with which a run begins.
 -- Assumes nothing.
-use Prim.Native.Nat.{ℕ, zero, suc, _*_, _≤_}
+use Prim.Native.Nat.{ℕ, _*_, _≤_}
 use mathlib.Core.Path.{_≡_, refl, sym, ap, _∙_, subst}
 use mathlib.Core.Bool.{true, _&&_}
-use mathlib.Core.List.{List, [], _∷_}
+use mathlib.Core.List.{List, []}
 use native.Mathlib.Omega.{arith}
-use lib.ListN.{length, take, replicate, length-replicate}
-use lib.Dec.{leb}
+use lib.ListN.{length, replicate, length-replicate}
 use lib.Pow.{pow-mono}
-use borrow.Author.Tests.{eq-eqb, leb-true}
+use borrow.Author.Tests.{eq-eqb}
 use Rattle.rules.specs.Lists.{all}
 use Rattle.rules.specs.Shape.{homes, places, goodTable, fitsLength}
 use Rattle.rules.specs.Record.{within}
 use Rattle.rules.specs.Lay.{ascend}
 use Rattle.table_words.specs.Range.{InRange, range-in}
+use Rattle.table_words.specs.Clear.{take-replicate}
+use Rattle.table_words.specs.Tests.{between}
 use Rattle.theory.specs.Dealt.{and-left, and-right, and-both}
 use Rattle.demands.specs.Terms.{PlainTable, InKeys, listOf, distinct, left-by, putAll, Builds}
 use Rattle.demands.specs.Demand2.{build-lists, build-puts}
@@ -36,25 +37,15 @@ in-limits f h =
     let some = and-left (within 1 14 (f .shape .m)) _ shape in
     let rest = and-right (within 1 14 (f .shape .m)) _ shape in
     let crew = and-right (within 1 14 (f .shape .m) && within 1 12 (f .shape .r)) _ h in
-    let m-high = leb-true (f .shape .m) 14 (and-right (leb 1 (f .shape .m)) _ some) in
+    let m = between 1 14 (f .shape .m) some in
+    let r = between 1 12 (f .shape .r) rest in
     record {
-      range =
-          record {
-            m-low = leb-true 1 (f .shape .m) (and-left (leb 1 (f .shape .m)) _ some);
-            m-high = omega (arith, m-high);
-            r-low = leb-true 1 (f .shape .r) (and-left (leb 1 (f .shape .r)) _ rest);
-            r-high = leb-true (f .shape .r) 12 (and-right (leb 1 (f .shape .r)) _ rest);
-          };
-      m-high = m-high;
-      tasks-high = leb-true (f .tasks) 16 (and-right (leb 1 (f .tasks)) _ crew);
+      range = record { m-low = m .least; m-high = omega (arith, m .most); r-low = r .least; r-high = r .most };
+      m-high = m .most;
+      tasks-high = between 1 16 (f .tasks) crew .most;
     }
 
 -- ---- zeros
-take-replicate : {A : Type 0} (k n : ℕ) (a : A) → k ≤ n → take k (replicate n a) ≡ replicate k a
-take-replicate zero n a le = refl
-take-replicate (suc k) zero a le = absurd (omega arith)
-take-replicate {A} (suc k) (suc n) a le = ap (λ (rest : List A). a ∷ rest) (take-replicate k n a (omega arith))
-
 module _ (sh : Shape) (range : InRange sh) where
   abbrev zeros : List ℕ
   zeros = replicate (2 * places sh) 0

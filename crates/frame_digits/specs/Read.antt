@@ -1,10 +1,10 @@
 -- Digits read. `digitOr`: what a byte is worth as a digit, with a law for each range of the code; `Reading`:
 -- the invariant of a number read digit by digit, with its laws.
 -- Assumes nothing.
-use Prim.Native.Nat.{ℕ, zero, suc, _+_, _*_, _-_, _^_, _≤_, _<_}
+use Prim.Native.Nat.{ℕ, _+_, _*_, _-_, _^_, _≤_, _<_}
 use mathlib.Core.Path.{_≡_, refl, _∙_}
 use mathlib.Core.Bool.{Bool, true, false, cond}
-use mathlib.Core.List.{List, [], _∷_}
+use mathlib.Core.List.{List}
 use native.Mathlib.Numerals.{add-one}
 use native.Mathlib.Nat.{pow-zero, pow-suc, pow-le-pow-right, zero-lt-suc}
 use native.Mathlib.Omega.{arith}
@@ -13,6 +13,7 @@ use lib.Dec.{leb}
 use lib.ListN.{length, getD, take, drop, length-drop}
 use lib.Seq.{drop-cons, drop-length, length-take-le, getD-take, getD-drop}
 use Rattle.rules.specs.Lists.{all}
+use Rattle.table_words.specs.All.{all-at}
 use Rattle.frame_rules.specs.Digits.{isDigit, worth, numberAfter, number}
 
 -- what a byte is worth as a digit; 16 where it is none
@@ -114,23 +115,6 @@ module _ (c : ℕ) where
   unfolding digitOr
   digit-is-worth e = rw e
 
--- ---- a text of digits
-
--- what holds of all holds at a place
-pub all-at : (f : ℕ → Bool) (s : List ℕ) (i : ℕ) → all f s ≡ true → i < length s → f (getD s i 0) ≡ true
-unfolding all
-all-at f [] i h inside = absurd (omega arith)
-all-at f (x ∷ xs) zero h inside = go (f x) refl
-  where
-    go : (b : Bool) → f x ≡ b → f x ≡ true
-    go true e = e
-    go false e = absurd (let never : false ≡ true = rw e at h in let z : _≡_ {A = ℕ} 0 1 = cc in omega arith)
-all-at f (x ∷ xs) (suc i) h inside = all-at f xs i (go (f x) refl) (omega arith)
-  where
-    go : (b : Bool) → f x ≡ b → all f xs ≡ true
-    go true e = rw e at h
-    go false e = absurd (let never : false ≡ true = rw e at h in let z : _≡_ {A = ℕ} 0 1 = cc in omega arith)
-
 -- ---- a number, digit by digit
 
 -- j of the n digits of p are read, and they write k
@@ -172,7 +156,7 @@ module _ (s : List ℕ) (at n : ℕ)
 
         module _ (d : ℕ) (is : d ≡ digitOr (getD s (at + j) 0)) where
           digit-good : isDigit (getD s (at + j) 0) ≡ true
-          digit-good = all-at isDigit s (at + j) good (omega arith)
+          digit-good = all-at isDigit s (at + j) 0 good (omega arith)
 
           worth-is : d ≡ worth (getD s (at + j) 0)
           worth-is = is ∙ digit-is-worth (getD s (at + j) 0) digit-good

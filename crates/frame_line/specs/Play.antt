@@ -1,18 +1,20 @@
 -- A line's keys run through idle tasks, as the code has them. `play-is`: sixteen idle places of which n sit are the
 -- start that the format names. `limit-fits`, `limit-is`: the limit of rounds as the code computes it.
 -- Assumes nothing.
-use Prim.Native.Nat.{ℕ, zero, suc, _+_, _*_, _≤_, _<_}
-use mathlib.Core.Path.{_≡_, refl, ap, ap₂, _∙_}
+use Prim.Native.Nat.{ℕ, _+_, _*_, _≤_, _<_}
+use mathlib.Core.Path.{_≡_, ap, ap₂, _∙_}
 use mathlib.Core.Bool.{Bool, cond}
-use mathlib.Core.List.{List, _∷_, _++_, append-nil}
+use mathlib.Core.List.{List, _++_, append-nil}
 use native.Mathlib.Nat.{mul-le-mul-right}
 use native.Mathlib.Omega.{arith}
-use lib.ListN.{length, take, drop, replicate, drop-of-length-le}
+use lib.ListN.{length, drop, replicate, drop-of-length-le}
 use lib.Dec.{leb}
 use Rattle.rules.specs.declared.Shape.{Shape}
 use Rattle.rules.specs.Lists.{all}
 use Rattle.rules.specs.Shape.{shapeOf, homes}
 use Rattle.table_words.specs.Range.{InRange}
+use Rattle.rules.specs.Record.{noTask}
+use Rattle.table_words.specs.Clear.{take-replicate}
 use Rattle.rules.specs.Record.{noTask}
 use Rattle.frame_rules.specs.Rounds.{Floor, start, allAnswered, rounds, limit, play}
 use Rattle.frame_rules.specs.Call.{Line, refused, leftAlone, played}
@@ -40,15 +42,10 @@ unfoldable pub lineKeys : ℕ → ℕ → ℕ → List ℕ → List ℕ → List
 lineKeys m r n bytes ks slots =
     cond (leb (length ks) (length slots)) (played ks slots (play m r n bytes ks)) (leftAlone (refused 9) bytes slots)
 
-take-all : {A : Type 0} (n k : ℕ) (x : A) → n ≤ k → take n (replicate k x) ≡ replicate n x
-take-all zero k x h = refl
-take-all (suc n) zero x h = absurd (omega arith)
-take-all (suc n) (suc k) x h = ap (λ xs. x ∷ xs) (take-all n k x (omega arith))
-
 module _ (m r n : ℕ) (few : n ≤ 16) (ks bytes : List ℕ) where
   start-is : floorOf n bytes (replicate (length ks) 0) idleDesk ≡ start bytes n ks
   unfolding start
-  start-is = rw (take-all n 16 noTask few, take-all {A = ℕ} n 16 0 few)
+  start-is = rw (take-replicate n 16 noTask few, take-replicate {A = ℕ} n 16 0 few)
 
   -- what the rounds leave of the idle desk is what `play` names
   module _ (table answers before zeros : List ℕ) (d idle : Desk) (sh : Shape) (most : ℕ) (b : Bool)

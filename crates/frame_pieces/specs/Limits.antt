@@ -14,6 +14,7 @@ use borrow.Author.Tests.{leb-true}
 use Rattle.rules.specs.Lists.{all}
 use Rattle.rules.specs.Shape.{shapeOf, homes, keys, places}
 use Rattle.rules.specs.Record.{within}
+use Rattle.table_words.specs.Tests.{between}
 use Rattle.frame_rules.specs.Digits.{isDigit, digitsOf, wordDigits}
 use Rattle.frame_digits.specs.Print.{digits-length, words-length}
 use Rattle.frame_rules.specs.Lines.{First, firstOf, inLimits, goodFirst, firstKeys, keysOf, goodLine}
@@ -31,15 +32,6 @@ pub record Limits (f : First) : Type 0 where
   pub r-high : f .r ≤ 12
   pub tasks-low : 1 ≤ f .tasks
   pub tasks-high : f .tasks ≤ 16
-
-pub record Between (low high x : ℕ) : Type 0 where
-  pub least : low ≤ x
-  pub most : x ≤ high
-
-pub between : (low high x : ℕ) → within low high x ≡ true → Between low high x
-between low high x e =
-    let (a, b) = and-eq-true-iff (leb low x) (leb x high) .0 e in
-    record { least = leb-true low x a; most = leb-true x high b }
 
 pub limits : (f : First) → inLimits f ≡ true → Limits f
 unfolding inLimits

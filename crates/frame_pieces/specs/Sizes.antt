@@ -20,7 +20,7 @@ use Rattle.rules.specs.Record.{taskAt, goodTask}
 use Rattle.rules.specs.Phase as phase
 use Rattle.rules.specs.Phase.{Step, to, unsound, exchange, marked, setChange, setVirgin}
 use Rattle.rules.specs.Step.{Lent, Stepped, steps, refused, ofPhase, orUnsound, stepOf, lentAfter, step}
-use Rattle.table_words.specs.Layout.{words-length, bytes-length}
+use Rattle.table_words.specs.Layout.{words-length, bytes-length, change-length, virgin-length}
 use Rattle.table_words.specs.Range.{good-table}
 use Rattle.frame_rules.specs.Rounds.{Floor, start, afterTake, afterStep, turn, turns, round, allAnswered, rounds}
 use Rattle.frame_rules.specs.Rounds.{limit, play}
@@ -33,14 +33,6 @@ data Sized (n : ℕ) : Step → Type 0 where
 one-of : {n : ℕ} {x y : Step} (b : Bool) → Sized n x → Sized n y → Sized n (cond b x y)
 one-of true p q = p
 one-of false p q = q
-
-change-length : (ws : List Word) (p : ℕ) (b : Bool) → length (setChange ws p b) ≡ length ws
-unfolding setChange
-change-length ws p b = length-set ws p _
-
-virgin-length : (ws : List Word) (p : ℕ) → length (setVirgin ws p) ≡ length ws
-unfolding setVirgin
-virgin-length ws p = length-set ws p _
 
 module _ (sh : Shape) (ws : List Word) (t : Task) where
   same : {u : Task} → Sized (length ws) (to u ws)

@@ -1,14 +1,14 @@
 -- One task's turn on its own record (01, The frame program). `turn-one`: the turn of task i on the floor is that turn,
 -- with what it leaves put back.
 -- Assumes nothing.
-use Prim.Native.Nat.{ℕ, zero, suc, _+_, _/_, _≤_, _<_}
+use Prim.Native.Nat.{ℕ, suc, _+_, _/_, _≤_, _<_}
 use mathlib.Core.Path.{_≡_, refl, sym, ap, _∙_}
 use mathlib.Core.Bool.{Bool, true, false, cond}
-use mathlib.Core.List.{List, [], _∷_}
+use mathlib.Core.List.{List}
 use native.Mathlib.Numerals.{add-one}
 use native.Mathlib.Omega.{arith}
 use lib.ListN.{length, getD, set}
-use lib.Seq.{set-getD, getD-set-same}
+use lib.Seq.{set-getD, set-out, getD-set-same}
 use lib.Dec.{ltb, eqb}
 use borrow.Author.Tests.{lt-ltb, le-ltb, le-leb, ne-eqb}
 use Rattle.rules.specs.declared.Task.{Task}
@@ -154,12 +154,7 @@ module _ (answers : List ℕ) (i : ℕ) (t : Task) where
 
   pub answer-lost : t .phase ≡ 13 → length answers ≤ i → answers ≡ answered answers i t
   unfolding answered
-  answer-lost e beyond = rw e (sym (set-beyond answers i (t .answer) beyond))
-    where
-      set-beyond : (xs : List ℕ) (j x : ℕ) → length xs ≤ j → set xs j x ≡ xs
-      set-beyond [] j x h = refl
-      set-beyond (y ∷ xs) zero x h = absurd (omega arith)
-      set-beyond (y ∷ xs) (suc j) x h = ap (λ (zs : List ℕ). y ∷ zs) (set-beyond xs j x (omega arith))
+  answer-lost e beyond = rw e (sym (set-out answers i (t .answer) beyond))
 
   pub answer-later : (t .phase ≡ 13 → ⊥) → answers ≡ answered answers i t
   unfolding answered

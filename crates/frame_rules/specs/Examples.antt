@@ -18,7 +18,8 @@ use Rattle.rules.specs.Entry.{placeOfHome, homeOfPlace, homeOf, remainderOf, sp
 use Rattle.rules.specs.Table.{endsInChange, rising, soundRun, virginPlaces, deal, entriesBetween, guardsVoid}
 use Rattle.rules.specs.Lay.{holds}
 use Rattle.rules.specs.Record.{homePlaceOf, busy, atRest, fitsHand, fitsBusy, fits}
-use Rattle.rules.specs.Phase.{home, lookLeft, lookRight, lockLeft, lockRight, backOff, readable, smaller, markOf}
+use Rattle.rules.specs.Phase.{home, lookLeft, lookRight, lockLeft, lockRight, backOff, readable}
+use Rattle.rules.specs.Lay.{smaller, markOf}
 use Rattle.rules.specs.Phase.{handOf, goalOf, readEntries, read, movesOn, fillHand, neighbour, exchange, move}
 use Rattle.rules.specs.Phase.{setChange, setVirgin, marked, mark, freeLeft, freeRight}
 use Rattle.rules.specs.Step.{ofPhase, stepOf, step}

@@ -1,15 +1,15 @@
 -- The first line's tests: a number within its limits, `all-in` and `not-m` to `not-tasks`.
 -- `first-other` to `first-length`: the line by its tests.
 -- Assumes nothing.
-use Prim.Native.Nat.{ℕ, _-_, _≤_, _<_}
+use Prim.Native.Nat.{ℕ, _-_, _≤_}
 use mathlib.Core.Path.{_≡_, refl, sym, ap, _∙_}
-use mathlib.Core.Bool.{Bool, true, false, and-false}
+use mathlib.Core.Bool.{Bool, true, false}
 use mathlib.Core.List.{List, []}
 use native.Mathlib.Omega.{arith}
 use lib.ListN.{length, take, drop, replicate, length-replicate}
 use lib.Seq.{length-take-le}
 use lib.Dec.{leb}
-use borrow.Author.Tests.{le-leb, lt-leb, eq-eqb, ne-eqb, leb-true}
+use borrow.Author.Tests.{eq-eqb, ne-eqb, leb-true}
 use Rattle.rules.specs.Lists.{all}
 use Rattle.rules.specs.Record.{within}
 use Rattle.frame_rules.specs.Digits.{isDigit, number}
@@ -17,16 +17,6 @@ use Rattle.frame_rules.specs.Lines.{inLimits, firstOf, goodFirst}
 use Rattle.frame_rules.specs.Frame.{after, among, ended, firstLine, error}
 use Rattle.frame_rules.specs.Feed.{runOf, heldLine}
 use Rattle.frame_run.specs.Closing.{Closing, closing, firstIs}
-
--- a number from one to another, or below, or above
-pub inside : (low high x : ℕ) → low ≤ x → x ≤ high → within low high x ≡ true
-inside low high x a b = rw (le-leb low x a, le-leb x high b)
-
-pub below : (low high x : ℕ) → x < low → within low high x ≡ false
-below low high x a = rw (lt-leb low x a)
-
-pub above : (low high x : ℕ) → high < x → within low high x ≡ false
-above low high x a = rw (lt-leb x high a) (and-false (leb low x))
 
 module _ (m r n : ℕ) where
   pub all-in : within 1 14 m ≡ true → within 1 12 r ≡ true → within 1 16 n ≡ true → true ≡ inLimits (firstIs m r n)

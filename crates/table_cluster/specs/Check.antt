@@ -5,7 +5,7 @@
 use Prim.Native.Nat.{ℕ, suc, _+_, _*_, _/_, _%_, _^_, _≤_, _<_}
 use mathlib.Core.Path.{_≡_, refl, sym, _∙_, ap, ap₂}
 use mathlib.Core.Bool.{Bool, true, false, not, _&&_, _||_, and-true, or-false, and-assoc, or-assoc}
-use mathlib.Core.List.{List, [], _∷_, _++_}
+use mathlib.Core.List.{List, [], _∷_}
 use native.Mathlib.Numerals.{add-one}
 use native.Mathlib.Omega.{arith}
 use lib.Bits.{bitOr, or-lt, or-mod}
@@ -19,9 +19,10 @@ use Rattle.rules.specs.Word.{Word, wordOf, isVoid}
 use Rattle.rules.specs.Bytes.{wordsOf}
 use Rattle.rules.specs.Shape.{remainders}
 use Rattle.rules.specs.Table.{at, between, endsInChange, rising, soundRun, locked}
-use Rattle.theory.specs.Dealt.{isChange, isVirgin, isLow, and-left}
 use Rattle.table_words.specs.Range.{some-remainders}
 use Rattle.table_words.specs.Over.{over-below}
+use Rattle.theory.specs.Dealt.{isChange, isVirgin, isLow, and-left}
+use Rattle.theory.specs.Locks.{locked-append}
 use Rattle.table_cluster.specs.Run.{run-step, run-end, run-last, run-after}
 use Rattle.table_cluster.specs.declared.run.Check.{Check}
 
@@ -207,12 +208,6 @@ module _ (sh : Shape) (bs : List ℕ) (i r : ℕ) where
 pub void-remainder : (w : Word) → isVoid w ≡ true → w .remainder ≡ 0
 unfolding isVoid
 void-remainder w e = eqb-true (w .remainder) 0 (and-left (eqb (w .remainder) 0) _ e)
-
-locked-append : (us vs : List Word) → locked (us ++ vs) ≡ (locked us || locked vs)
-unfolding locked any
-locked-append [] vs = refl
-locked-append (u ∷ us) vs =
-    ap (λ (b : Bool). u .lock || b) (locked-append us vs) ∙ sym (or-assoc (u .lock) (locked us) (locked vs))
 
 -- the words from l to r: the run between them, and the two
 locked-ends :

@@ -14,6 +14,7 @@ use Rattle.rules.specs.Lists.{bitOf, count}
 use Rattle.rules.specs.Word.{Word, wordOf}
 use Rattle.rules.specs.Bytes.{wordsOf}
 use Rattle.rules.specs.Table.{at, between, occupiedPlaces, leftGap, rightGap}
+use Rattle.table_words.specs.Counts.{count-le, count-append}
 use Rattle.theory.specs.Dealt.{isChange, isVirgin, isOccupied}
 use Rattle.theory.specs.Gaps.{leftGap-is, rightGap-is}
 use Rattle.theory.specs.Places.{occupied-at, occupied-length}
@@ -39,19 +40,9 @@ rightEnd ws homeAt =
     endOf r (between ws l r)
 
 -- ---- the bits of the words from place a up to b
-count-few : (f : Word → Bool) (ws : List Word) → count f ws ≤ length ws
-unfolding count
-count-few f [] = omega arith
-count-few f (w ∷ ws) = go (f w) (count-few f ws)
-  where
-    go : (b : Bool) → count f ws ≤ length ws → bitOf b + count f ws ≤ suc (length ws)
-    go true rest = omega arith
-    go false rest = omega arith
-
 count-last : (f : Word → Bool) (ws : List Word) (w : Word) → count f (ws ++ (w ∷ [])) ≡ count f ws + bitOf (f w)
 unfolding count
-count-last f [] w = omega arith
-count-last f (v ∷ ws) w = omega (arith, count-last f ws w)
+count-last f ws w = omega (arith, count-append f ws (w ∷ []))
 
 pub record Counted (bs : List ℕ) (a b n m : ℕ) : Type 0 where
   pub virgins : n ≡ count isVirgin (slice a b (wordsOf bs))
@@ -67,7 +58,7 @@ counted-few {bs} {a} {b} k =
     let ws = wordsOf bs in
     let size : length (slice a b ws) ≤ b - a = omega (arith, length-drop a (take b ws), length-take b ws) in
     let run = slice a b ws in
-    (omega (arith, k .virgins, count-few isVirgin run), omega (arith, k .changes, count-few isChange run))
+    (omega (arith, k .virgins, count-le isVirgin run), omega (arith, k .changes, count-le isChange run))
 
 -- a word as it is read, with its bits
 pub record Bits (bs : List ℕ) (i w x y : ℕ) : Type 0 where

@@ -1,10 +1,11 @@
 -- The surroundings of a home as find and put take them: `around-check`, what a check of its cluster tells, and
 -- `alone-sound`, `alone-locked`, the same of an empty home. `Open`: they are sound and unlocked; `cluster-inside`,
 -- `beside-cluster`, `read-cluster`: then the cluster stands in the table, and a read from its left end reads its keys.
+-- `Crowded`: an occupied home, as find and put come to it: `left-owed` to `told-open`, what the calls ask and tell.
 -- Assumes nothing.
 use Prim.Native.Nat.{ℕ, suc, _+_, _*_, _≤_, _<_}
 use mathlib.Core.Path.{_≡_, refl, sym, _∙_, ap, ap₂}
-use mathlib.Core.Bool.{Bool, true, false, _&&_, _||_}
+use mathlib.Core.Bool.{Bool, true, false, _&&_, or-false}
 use mathlib.Core.List.{List, []}
 use native.Mathlib.Numerals.{add-one}
 use native.Mathlib.Omega.{arith}
@@ -21,10 +22,12 @@ use Rattle.rules.specs.Table.{endsInChange, rising, deal, entriesBetween, clust
 use Rattle.rules.specs.Find.{around, soundAround, lockedAround}
 use Rattle.table_words.specs.Range.{InRange, homes-high}
 use Rattle.table_words.specs.Layout.{words-length}
+use Rattle.table_words.specs.Split.{InShape}
 use Rattle.theory.specs.Gaps.{HomePlace}
-use Rattle.theory.specs.Dealt.{isVirgin, isChange, and-left, and-right}
+use Rattle.theory.specs.Keys.{home-place}
+use Rattle.theory.specs.Dealt.{isVirgin, isChange, isOccupied, and-left, and-right}
 use Rattle.theory.specs.Cut.{CutHome, cut-home}
-use Rattle.theory.specs.Places.{occupied-at, occupied-length, void-free}
+use Rattle.theory.specs.Places.{left-free, occupied-at, occupied-length}
 use Rattle.table_cluster.specs.Homes.{Housed, sound-housed}
 use Rattle.table_cluster.specs.Scan.{left-stop, right-stop}
 use Rattle.table_read.specs.Read.{readOf}
@@ -44,9 +47,9 @@ pub open-guards : {sh : Shape} {ws : List Word} {homeAt : ℕ} → Open sh ws ho
 unfolding soundAround
 open-guards {sh} {ws} o = and-left (guardsVoid sh ws) _ (and-left (guardsVoid sh ws && _) _ (o .sound))
 
-pub left-free : (sh : Shape) (ws : List Word) → guardsVoid sh ws ≡ true → at ws 0 .occupied ≡ false
-unfolding guardsVoid
-left-free sh ws void = void-free (at ws 0) (and-left (isVoid (at ws 0)) _ void)
+-- the home's bit, as it is tested of the word that is read there
+pub home-bit : {v w : Word} {r b : Bool} → v ≡ w → r ≡ v .occupied → r ≡ b → w .occupied ≡ b
+home-bit read tested is = sym (ap isOccupied read) ∙ sym tested ∙ is
 
 module _ (sh : Shape) (ws : List Word) (homeAt : ℕ) where
   pub around-barred : guardsVoid sh ws ≡ false → soundAround sh ws homeAt ≡ false
@@ -95,11 +98,7 @@ module _ (sh : Shape) (ws : List Word) (homeAt : ℕ) where
             slice-cons homeAt (suc homeAt) ws zeroWord (omega arith) (omega (arith, size, h .last)),
             slice-empty (suc homeAt) ws,
           )
-          (once (at ws homeAt .lock))
-        where
-          once : (l : Bool) → (l || false) ≡ l
-          once true = refl
-          once false = refl
+          (or-false (at ws homeAt .lock))
 
       pub alone-entries : clusterEntries ws homeAt ≡ []
       unfolding clusterEntries entriesBetween deal
@@ -185,6 +184,16 @@ pub record Crowded (sh : Shape) (bs : List ℕ) (homeAt : ℕ) : Type 0 where
   pub void : guardsVoid sh (wordsOf bs) ≡ true
   pub full : at (wordsOf bs) homeAt .occupied ≡ true
 
+-- as their contracts say it
+pub crowded :
+    {sh : Shape} {bs : List ℕ} {e : Entry} →
+    InRange sh
+    × ((length bs ≡ 2 * places sh)
+    × (InShape sh e × ((guardsVoid sh (wordsOf bs) ≡ true) × (at (wordsOf bs) (e .homePlace) .occupied ≡ true)))) →
+    Crowded sh bs (e .homePlace)
+crowded (range, (even, (i, (void, full)))) =
+    record { range = range; even = even; home-place = home-place i; void = void; full = full }
+
 module _ {sh : Shape} {bs : List ℕ} {homeAt : ℕ} (c : Crowded sh bs homeAt) where
   size : length (wordsOf bs) ≡ places sh
   size = words-length bs (places sh) (c .even)
@@ -192,19 +201,33 @@ module _ {sh : Shape} {bs : List ℕ} {homeAt : ℕ} (c : Crowded sh bs homeAt) 
   cut : CutHome (wordsOf bs) homeAt
   cut = cluster-cut size (c .home-place) (c .full) (c .void)
 
-  pub home-inside : 2 * homeAt + 1 < length bs
+  home-inside : 2 * homeAt + 1 < length bs
   unfolding places
   home-inside = omega (arith, c .even, c .home-place .last)
 
-  pub left-open : at (wordsOf bs) 0 .occupied ≡ false
+  left-open : at (wordsOf bs) 0 .occupied ≡ false
   left-open = left-free sh (wordsOf bs) (c .void)
 
-  pub table-small : length bs ≤ 2097156
+  table-small : length bs ≤ 2097156
   unfolding places
   table-small = omega (arith, c .even, homes-high sh (c .range))
 
-  pub gap-inside : 2 * rightGap (occupiedPlaces (wordsOf bs)) homeAt + 1 < length bs
+  gap-inside : 2 * rightGap (occupiedPlaces (wordsOf bs)) homeAt + 1 < length bs
   gap-inside = omega (arith, cut .inside, size, c .even)
+
+  -- what is owed to left_end, and to right_end
+  pub left-owed :
+      (2 * homeAt + 1 < length bs)
+      × ((at (wordsOf bs) 0 .occupied ≡ false) × (at (wordsOf bs) homeAt .occupied ≡ true))
+  left-owed = (home-inside, (left-open, c .full))
+
+  pub right-owed :
+      {l : End} → l ≡ leftEnd (wordsOf bs) homeAt →
+      (length bs ≤ 2097156)
+      × ((2 * rightGap (occupiedPlaces (wordsOf bs)) homeAt + 1 < length bs)
+      × ((at (wordsOf bs) 0 .occupied ≡ false)
+      × ((at (wordsOf bs) homeAt .occupied ≡ true) × (l ≡ leftEnd (wordsOf bs) homeAt))))
+  right-owed left = (table-small, (gap-inside, (left-open, (c .full, left))))
 
   module _ (l r : End) (left : l ≡ leftEnd (wordsOf bs) homeAt) (right : r ≡ rightEnd (wordsOf bs) homeAt) where
     left-gap : l .gap .0 ≡ leftGap (occupiedPlaces (wordsOf bs)) homeAt
@@ -215,19 +238,28 @@ module _ {sh : Shape} {bs : List ℕ} {homeAt : ℕ} (c : Crowded sh bs homeAt) 
     unfolding rightEnd
     right-gap = ap (λ (a : End). a .gap .0) right
 
-    pub ends-apart : l .gap .0 < r .gap .0
+    ends-apart : l .gap .0 < r .gap .0
     ends-apart = omega (arith, left-gap, right-gap, cut .after, cut .before)
 
-    pub end-inside : 2 * r .gap .0 + 1 < length bs
+    end-inside : 2 * r .gap .0 + 1 < length bs
     end-inside = omega (arith, right-gap, gap-inside)
 
-    pub virgins-counted : r .virgins ≡ count isVirgin (between (wordsOf bs) (l .gap .0) (r .gap .0))
+    virgins-counted : r .virgins ≡ count isVirgin (between (wordsOf bs) (l .gap .0) (r .gap .0))
     unfolding rightEnd
     virgins-counted = rw (left-gap, right-gap) (ap (λ (a : End). a .virgins) right)
 
-    pub changes-counted : r .changes ≡ count isChange (between (wordsOf bs) (l .gap .0) (r .gap .0))
+    changes-counted : r .changes ≡ count isChange (between (wordsOf bs) (l .gap .0) (r .gap .0))
     unfolding rightEnd
     changes-counted = rw (left-gap, right-gap) (ap (λ (a : End). a .changes) right)
+
+    -- what is owed to check_run
+    pub check-owed :
+        InRange sh
+        × ((l .gap .0 < r .gap .0)
+        × ((2 * r .gap .0 + 1 < length bs)
+        × ((r .virgins ≡ count isVirgin (between (wordsOf bs) (l .gap .0) (r .gap .0)))
+        × (r .changes ≡ count isChange (between (wordsOf bs) (l .gap .0) (r .gap .0))))))
+    check-owed = (c .range, (ends-apart, (end-inside, (virgins-counted, changes-counted))))
 
     checked :
         (run : Check) → run ≡ checkOf sh (wordsOf bs) (l .gap .0) (r .gap .0) →

@@ -2,8 +2,7 @@
 -- Assumes nothing.
 use Prim.Native.Nat.{ℕ, _+_, _*_, _≤_, _<_}
 use mathlib.Core.Path.{_≡_}
-use mathlib.Core.Bool.{Bool}
-use mathlib.Core.List.{List, [], _∷_}
+use mathlib.Core.List.{List}
 use native.Mathlib.Nat.{add-zero}
 use native.Mathlib.Omega.{arith}
 use lib.ListN.{length}
@@ -12,16 +11,9 @@ use Rattle.rules.specs.Lists.{bitOf, count}
 use Rattle.rules.specs.Word.{wordOf}
 use Rattle.rules.specs.Bytes.{wordsOf}
 use Rattle.rules.specs.Table.{at}
-use Rattle.table_words.specs.Number.{bit-small}
 use Rattle.table_words.specs.Layout.{words-length}
 use Rattle.theory.specs.Dealt.{isOccupied}
 use Rattle.table_cluster.specs.Run.{run-step, run-end}
-
--- no more pass a test than there are
-pub count-few : {A : Type 0} (f : A → Bool) (xs : List A) → count f xs ≤ length xs
-unfolding count
-count-few f [] = omega arith
-count-few f (x ∷ xs) = omega (arith, count-few f xs, bit-small (f x))
 
 -- k places are counted, and those from place i on are to come
 module _ (bs : List ℕ) (n : ℕ) where

@@ -1,13 +1,12 @@
--- A key's entry, of the place and the remainder that the code has of it: `key-entry`, `key-shape`, `home-place`.
+-- A key's entry, of the place and the remainder that the code has of it: `key-entry`, `key-shape`.
 -- Assumes nothing.
 use Prim.Native.Nat.{ℕ, _<_}
 use mathlib.Core.Path.{_≡_, sym, subst}
 use Rattle.rules.specs.declared.Shape.{Shape}
 use Rattle.rules.specs.Shape.{keys}
-use Rattle.rules.specs.Entry.{Entry, remainderOf, split}
+use Rattle.rules.specs.Entry.{remainderOf, split}
 use Rattle.table_words.specs.Split.{InShape, split-in-shape}
 use Rattle.theory.specs.Dealt.{entry-path}
-use Rattle.theory.specs.Gaps.{HomePlace}
 use Rattle.table_read.specs.Read.{entry}
 
 module _ (sh : Shape) (key homeAt x : ℕ) (placed : homeAt ≡ split sh key .homePlace) (rest : x ≡ remainderOf sh key) where
@@ -17,6 +16,3 @@ module _ (sh : Shape) (key homeAt x : ℕ) (placed : homeAt ≡ split sh key .ho
 
   pub key-shape : key < keys sh → InShape sh (entry homeAt x)
   key-shape low = subst (InShape sh) (sym key-entry) (split-in-shape sh key low)
-
-pub home-place : {sh : Shape} {e : Entry} → InShape sh e → HomePlace sh (e .homePlace)
-home-place i = record { first = i .home-low; last = i .home-high }

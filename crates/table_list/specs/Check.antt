@@ -19,8 +19,9 @@ use Rattle.rules.specs.Bytes.{wordsOf}
 use Rattle.rules.specs.Shape.{remainders}
 use Rattle.rules.specs.Table.{at, endsInChange, rising, soundRun, sound, locked}
 use Rattle.table_words.specs.Range.{some-remainders}
+use Rattle.table_words.specs.All.{all-append}
 use Rattle.theory.specs.Dealt.{isChange, isVirgin, isOccupied, isLow, and-left, and-right}
-use Rattle.theory.specs.Pairs.{void-unlock}
+use Rattle.theory.specs.Locks.{void-unlock}
 use Rattle.table_cluster.specs.Run.{run-step, run-end}
 use Rattle.table_cluster.specs.Check.{rises, risesTo, rises-ends, over-low, over-lock, void-remainder}
 use Rattle.table_list.specs.declared.check.Order.{Order}
@@ -209,12 +210,6 @@ tidy-run (w ∷ v ∷ run) h t occ =
       tidy-run (v ∷ run) h t (and-right (w .occupied) _ occ),
     )
     (sym (and-assoc (rises w v) (risesTo h (v ∷ run)) (tidy (h ∷ t))))
-
-all-append :
-    (f : Word → Bool) (us vs : List Word) → all f (us ++ vs) ≡ (all f us && all f vs)
-unfolding all
-all-append f [] vs = refl
-all-append f (u ∷ us) vs = rw (all-append f us vs) (sym (and-assoc (f u) (all f us) (all f vs)))
 
 low-void :
     (sh : Shape) (h : Word) (t : List Word) →

@@ -6,7 +6,6 @@ use mathlib.Core.Path.{_≡_, refl, sym, ap, ap₂, _∙_}
 use mathlib.Core.Bool.{Bool, true, false, cond, _&&_}
 use mathlib.Core.List.{List, [], _∷_, _++_}
 use native.Mathlib.Omega.{arith}
-use native.Mathlib.Nat.{add-zero}
 use lib.ListN.{length, length-map}
 use lib.Dec.{eqb}
 use borrow.Author.Tests.{eqb-true}
@@ -19,9 +18,9 @@ use Rattle.rules.specs.Table.{endsInChange, soundRun, virginPlaces, front, due,
 use Rattle.rules.specs.Table.{entries, list, sound}
 use Rattle.theory.specs.Dealt.{isChange, isVirgin, isOccupied, isLow, and-left, and-right, entry-path}
 use Rattle.theory.specs.Dealt.{Dealt, dealt-none, dealt-ends, dealt-goes, dealt}
-use Rattle.theory.specs.RunLaws.{virgin-count, run-is-sound, run-occupied, run-entries}
+use Rattle.theory.specs.RunLaws.{virgin-count, virgins-append, run-is-sound, run-occupied, run-entries}
 use Rattle.theory.specs.Places.{void-free}
-use Rattle.theory.specs.Pairs.{void-unlock}
+use Rattle.theory.specs.Locks.{void-unlock}
 use Rattle.theory.specs.SoundTable.{sound-is-table}
 use Rattle.theory.specs.Seen.{Right, right-end, right-more, Table, table}
 
@@ -104,27 +103,6 @@ sound-dealt sh a run snd =
     (virgin-count a run ∙ eqb-true _ _ (and-left even _ ended))
 
 -- ---- a table
-virgins-append :
-    (p : ℕ) (xs ys : List Word) → virginPlaces p (xs ++ ys) ≡ virginPlaces p xs ++ virginPlaces (p + length xs) ys
-unfolding virginPlaces
-virgins-append p [] ys = ap (λ (n : ℕ). virginPlaces n ys) (sym (add-zero p))
-virgins-append p (x ∷ xs) ys =
-    go
-    (x .virgin)
-    (virgins-append (suc p) xs ys
-    ∙ ap (λ (n : ℕ). virginPlaces (suc p) xs ++ virginPlaces n ys) (plus p (length xs)))
-  where
-    plus : (m n : ℕ) → suc m + n ≡ m + suc n
-    plus m n = omega arith
-
-    go :
-        (b : Bool) →
-        virginPlaces (suc p) (xs ++ ys) ≡ virginPlaces (suc p) xs ++ virginPlaces (p + suc (length xs)) ys →
-        cond b (p ∷ virginPlaces (suc p) (xs ++ ys)) (virginPlaces (suc p) (xs ++ ys))
-        ≡ cond b (p ∷ virginPlaces (suc p) xs) (virginPlaces (suc p) xs) ++ virginPlaces (p + suc (length xs)) ys
-    go true e = ap (λ (hs : List ℕ). p ∷ hs) e
-    go false e = e
-
 -- a void word is no home and has no entry
 void-home : (p : ℕ) (g : Word) (v : List Word) → isVoid g ≡ true → virginPlaces p (g ∷ v) ≡ virginPlaces (suc p) v
 unfolding virginPlaces

@@ -19,7 +19,7 @@ use Rattle.rules.specs.Table.{at, occupiedPlaces, rightGap, between, soundRun, 
 use Rattle.theory.specs.Dealt.{isVirgin, isOccupied, isLow, and-left, and-right, and-both}
 use Rattle.theory.specs.Gaps.{Gap, Guarded, rightGap-is, gap-first, gap-above}
 use Rattle.theory.specs.Gaps as gaps
-use Rattle.theory.specs.Places.{void-free, occupied-at}
+use Rattle.theory.specs.Places.{void-free, left-free, occupied-at}
 use Rattle.theory.specs.Cut.{Cut, cut, between-occupied, void-guarded}
 use Rattle.theory.specs.SoundTable.{sound-past, look, sound-seen, sound-rest, origin-seen}
 use Rattle.theory.specs.SoundTable.{sound-is-table, table-guards, nothing-sound}
@@ -159,7 +159,7 @@ module _ (sh : Shape) (ws : List Word) (size : length ws ≡ places sh) (void : 
   guarded = void-guarded sh ws size void
 
   origin-free : at ws 0 .occupied ≡ false
-  origin-free = sym (occupied-at ws 0) ∙ guarded .left
+  origin-free = left-free sh ws void
 
   -- both passes over the words after a gap tell whether they are sound
   fine-ended : (l k : ℕ) → rightGuard sh ≤ l → fine sh k k (drop (suc l) ws) ≡ soundAfter sh ws l

@@ -26,7 +26,7 @@ use Rattle.theory.specs.Seen.{Table}
 use Rattle.theory.specs.SoundTable.{sound-is-table, table-guards}
 use Rattle.theory.specs.Dealt.{isVirgin, and-left, entry-path}
 use Rattle.theory.specs.Places.{void-free}
-use Rattle.theory.specs.Pairs.{void-unlock}
+use Rattle.theory.specs.Locks.{void-unlock}
 use Rattle.theory.specs.Keys.{table-inside, asc-in-shape}
 use Rattle.table_cluster.specs.Run.{run-step}
 use Rattle.table_cluster.specs.Homes.{homesFrom, firstOf, home-passed, Due}

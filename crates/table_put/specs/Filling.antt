@@ -27,13 +27,12 @@ use Rattle.theory.specs.Dealt.{or-left, or-right}
 use Rattle.theory.specs.Every.{All, none, both}
 use Rattle.theory.specs.Insert.{Within, ascend-asc, holds-ascend, holds-insert, holds-head, same-eq, same-refl}
 use Rattle.theory.specs.Order.{taken-homes}
-use Rattle.theory.specs.Gaps.{HomePlace}
 use Rattle.theory.specs.Finding.{surroundings, around-free}
-use Rattle.table_words.specs.Range.{InRange, remainders-high}
-use Rattle.table_words.specs.Split.{InShape, split-in-shape}
 use Rattle.rules.specs.Find.{soundAround}
+use Rattle.table_words.specs.Range.{InRange, remainders-high}
+use Rattle.table_words.specs.Split.{InShape}
 use Rattle.table_find.specs.Around.{Open}
-use Rattle.table_find.specs.Key.{home-place}
+use Rattle.theory.specs.Keys.{home-place, within-in-shape, split-within}
 use Rattle.theory.specs.Pairs.{table-tight, tight-taken}
 use Rattle.theory.specs.Putting.{Puts, found, inserted, overflow, put-table, table-guarded}
 use Rattle.theory.specs.Building.{Roomy, State, Inside, subset-length, table-asc, added-state, in-home, in-low}
@@ -127,12 +126,6 @@ record Shown (sh : Shape) (vs : List Word) (old es : List Entry) : Type 0 where
   kept : Inside old shown
   put : Inside es shown
 
-within-home :
-    {sh : Shape} {e : Entry} →
-    remainders sh ≤ 4096 → Within (remainders sh) (rightGuard sh) 4096 e → HomePlace sh (e .homePlace)
-unfolding rightGuard
-within-home s w = record { first = omega (arith, w .above, w .low); last = omega (arith, w .inside) }
-
 fill-shows :
     {sh : Shape} {es : List Entry} → remainders sh ≤ 4096 → All (Within (remainders sh) (rightGuard sh) 4096) es →
     (ws : List Word) (old : List Entry) → State sh ws old → (vs : List Word) → fillAll sh (filled ws) es ≡ filled vs →
@@ -149,7 +142,7 @@ fill-shows {sh} s none ws old t vs e =
 fill-shows {sh} s (both {x = e} {xs = es} w rest) ws old t vs made =
     go
     (putIn sh ws e)
-    (put-table sh e s (t .size) (within-home s w) (w .low) (t .table) (t .free))
+    (put-table sh e s (t .size) (home-place (within-in-shape sh e s w)) (w .low) (t .table) (t .free))
     (λ us now u m. fill-shows s rest us now u vs m)
     made
   where
@@ -251,12 +244,6 @@ unfolding fillAll
 still-clean sh ws vs e low w c made =
     let r = fill-shows low (both w none) ws (c .shown) (c .state) vs (sym made) in
     record { shown = r .shown; state = r .state }
-
-split-within : (sh : Shape) (key : ℕ) → key < keys sh → Within (remainders sh) (rightGuard sh) 4096 (split sh key)
-unfolding rightGuard
-split-within sh key low =
-    let i = split-in-shape sh key low in
-    record { above = omega (arith, i .home-low); low = i .remainder-low; inside = omega (arith, i .home-high) }
 
 pub key-clean :
     (sh : Shape) → InRange sh → (ws vs : List Word) (key : ℕ) → key < keys sh → Clean sh ws → (b : Bool) →

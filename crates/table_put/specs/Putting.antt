@@ -2,28 +2,28 @@
 -- goes on to be added beside its cluster: `added-left`, `added-right`, `added-none`, and its way's bounds, `reach`.
 -- `bytes-left`: what is said of the words that put leaves is said of every lent byte.
 -- Assumes nothing.
-use Prim.Native.Nat.{ℕ, suc, _+_, _-_, _*_, _≤_, _<_}
+use Prim.Native.Nat.{ℕ, suc, _+_, _*_, _≤_, _<_}
 use mathlib.Core.Path.{_≡_, refl, sym, _∙_, ap}
 use mathlib.Core.Bool.{Bool, true, false, cond}
-use mathlib.Core.List.{List, [], _∷_}
+use mathlib.Core.List.{List}
 use native.Mathlib.Omega.{arith}
 use lib.ListN.{length, getD, set}
-use lib.Seq.{length-slice}
 use borrow.Author.Tests.{eq-eqb, ne-eqb}
 use Rattle.rules.specs.declared.Shape.{Shape}
 use Rattle.rules.specs.Lists.{any}
 use Rattle.rules.specs.Word.{Word, isVoid}
 use Rattle.rules.specs.Bytes.{wordsOf}
 use Rattle.rules.specs.Shape.{places, rightGuard}
-use Rattle.rules.specs.Entry.{Entry, precedes}
-use Rattle.rules.specs.Table.{at, occupiedPlaces, leftGap, rightGap, between, guardsVoid}
-use Rattle.rules.specs.Table.{virginPlaces, deal, entriesBetween, clusterEntries}
+use Rattle.rules.specs.Entry.{Entry}
+use Rattle.rules.specs.Table.{at, occupiedPlaces, leftGap, rightGap, guardsVoid}
+use Rattle.rules.specs.Table.{clusterEntries}
 use Rattle.rules.specs.Room.{roomBeside, roomFor}
 use Rattle.rules.specs.Lay.{holds}
 use Rattle.rules.specs.Answer.{Answer, says, refuses, Leaves, leaves}
 use Rattle.rules.specs.Find.{soundAround, lockedAround}
 use Rattle.rules.specs.Put.{enlargedFrom, addAt, Outcome, keeps, writes, addTo, putIn, bytesAfter}
-use Rattle.rules.specs.Phase.{aloneWord, smaller, markOf}
+use Rattle.rules.specs.Word.{aloneWord}
+use Rattle.rules.specs.Lay.{smaller, markOf}
 use Rattle.table_words.specs.Range.{InRange, remainders-high}
 use Rattle.table_words.specs.Split.{InShape}
 use Rattle.table_words.specs.Layout.{same-bytes, bytes-are}
@@ -31,15 +31,14 @@ use Rattle.table_words.specs.declared.place.Place.{Place}
 use Rattle.theory.specs.Gaps as gaps
 use Rattle.theory.specs.Places.{occupied-at}
 use Rattle.theory.specs.Motion.{fillAt, finish}
-use Rattle.theory.specs.Moving.{Addable, add-moves, room-alone, add-alone}
+use Rattle.theory.specs.Moving.{Addable, smaller-inside, add-moves, room-alone, add-alone}
 use Rattle.table_read.specs.declared.read.Read.{Read}
 use Rattle.table_read.specs.Read.{readOf}
 use Rattle.table_cluster.specs.Ends.{leftEnd}
 use Rattle.table_cluster.specs.declared.gaps.End.{End}
 use Rattle.table_find.specs.Around.{Open, open-guards, around-barred, alone-sound, alone-locked, alone-entries}
 use Rattle.table_find.specs.Around.{Inside, cluster-inside}
-use Rattle.table_find.specs.Count.{count-few}
-use Rattle.table_find.specs.Key.{home-place}
+use Rattle.theory.specs.Keys.{home-place}
 
 -- the answer of an outcome with the words that it leaves
 abbrev pub wordsLeft : List Word → Outcome → Leaves (List Word)
@@ -150,11 +149,6 @@ pub record Insertable (sh : Shape) (ws : List Word) (e : Entry) (l : Place) (rea
   pub inside : Inside sh ws (e .homePlace)
   pub read-is : read ≡ readOf e (clusterEntries ws (e .homePlace))
 
-deal-length : (hs : List ℕ) (ws : List Word) → length (deal hs ws) ≡ length ws
-unfolding deal
-deal-length hs [] = refl
-deal-length hs (w ∷ ws) = ap suc (deal-length _ ws)
-
 -- what is left where the key was brought from the hand to its goal
 abbrev pub broughtTo : List Word → Entry → Read → ℕ → ℕ → List Word
 broughtTo ws e read hand goal = finish (fillAt (e .remainder) ws hand) hand goal (read .mark) (e .homePlace)
@@ -163,7 +157,7 @@ module _ {sh : Shape} {ws : List Word} {e : Entry} {l : Place} {read : Read} (g 
   -- no more keys are smaller than there are
   pub reach :
       (suc (l .0) + read .smaller ≤ rightGap (occupiedPlaces ws) (e .homePlace)) × (rightGap (occupiedPlaces ws) (e .homePlace) < places sh)
-  unfolding readOf smaller clusterEntries entriesBetween
+  unfolding readOf clusterEntries
   reach =
       let left = leftGap (occupiedPlaces ws) (e .homePlace) in
       let right = rightGap (occupiedPlaces ws) (e .homePlace) in
@@ -174,9 +168,7 @@ module _ {sh : Shape} {ws : List Word} {e : Entry} {l : Place} {read : Read} (g 
         g .inside .before,
         g .inside .low,
         ap (λ (a : Read). a .smaller) (g .read-is),
-        count-few (λ (f : Entry). precedes f e) (clusterEntries ws (e .homePlace)),
-        deal-length (virginPlaces (suc left) (between ws left right)) (between ws left right),
-        length-slice (suc left) right ws (omega (arith, g .addable .size, g .inside .low)),
+        smaller-inside ws left right e (omega (arith, g .addable .size, g .inside .low)),
       )
 
   -- the theory's law, with the hand at a gap and the enlarged cluster's first place

@@ -25,7 +25,7 @@ ghost use lib.ListN.{length, set};
 ghost use Rattle.rules.specs.Bytes.{wordsOf};
 ghost use Rattle.rules.specs.Shape.{places};
 ghost use Rattle.rules.specs.Table.{at};
-ghost use Rattle.rules.specs.Phase.{aloneWord};
+ghost use Rattle.rules.specs.Word.{aloneWord};
 ghost use Rattle.rules.specs.Answer.{says, leaves, putSays};
 ghost use Rattle.rules.specs.Put.{putIn};
 ghost use Rattle.table_words.specs.Range.{InRange};

@@ -15,14 +15,15 @@ use Rattle.rules.specs.Word.{Word, wordOf}
 use Rattle.rules.specs.Bytes.{wordsOf}
 use Rattle.rules.specs.Entry.{Entry}
 use Rattle.rules.specs.Table.{at, between, virginPlaces, deal, entriesBetween}
+use Rattle.table_words.specs.Counts.{count-append}
 use Rattle.theory.specs.Dealt.{isChange, isVirgin}
-use Rattle.theory.specs.RunLaws.{virgin-count}
+use Rattle.theory.specs.RunLaws.{virgin-count, virgins-append}
 use Rattle.table_cluster.specs.Scan.{words-count}
-use Rattle.table_cluster.specs.Run.{run-step, run-end}
+use Rattle.table_cluster.specs.Run.{run-step, run-end, run-last}
 use Rattle.table_cluster.specs.Homes.{homesFrom, home-passed, home-met, Housed, Owed, housed-owed}
 use Rattle.table_read.specs.Read.{readOf, after, unseen, read-whole}
 use Rattle.table_read.specs.Group.{placesOf, wordsFrom, passed, more, readSeen, groupRead, Below, Above, Passed}
-use Rattle.table_read.specs.Group.{virgins-below, virgins-above, virgins-append, pass-groups, pass-later, read-group}
+use Rattle.table_read.specs.Group.{virgins-below, virgins-above, pass-groups, pass-later, read-group}
 use Rattle.table_read.specs.Group.{split-run, passed-front, passed-beyond, passed-left, group-front, group-there}
 use Rattle.table_read.specs.declared.read.Read.{Read}
 use Rattle.table_cluster.specs.declared.gaps.End.{End}
@@ -31,27 +32,17 @@ use Rattle.table_cluster.specs.declared.gaps.End.{End}
 abbrev pub allBut : ℕ → List Word → ℕ
 allBut k ws = passed ws (count isChange ws - k)
 
-counts : (p : Word → Bool) (us vs : List Word) → count p (us ++ vs) ≡ count p us + count p vs
-unfolding count
-counts p [] vs = omega arith
-counts p (u ∷ us) vs = omega (arith, counts p us vs)
-
 -- ---- groups passed over to the left, from place to place
 module _ (bs : List ℕ) (a i : ℕ) (from : a ≤ i) (within : 2 * (i + 1) ≤ length bs) where
   one-more : slice a (i + 1) (wordsOf bs) ≡ slice a i (wordsOf bs) ++ (at (wordsOf bs) i ∷ [])
-  one-more =
-      split-run bs (i + 1) within (i - a) a i refl from (omega arith)
-      ∙ ap
-      (λ (ws : List Word). slice a i (wordsOf bs) ++ ws)
-      (run-step bs i (i + 1) (omega arith) within
-      ∙ ap (λ (ws : List Word). at (wordsOf bs) i ∷ ws) (run-end bs (i + 1) (i + 1) (omega arith)))
+  one-more = run-last bs a i from (omega arith)
 
   module _ (w x k : ℕ) (word : wordOf w ≡ at (wordsOf bs) i) (bit : x ≡ bitOf (wordOf w .change)) where
     one-counted : count isChange (slice a (i + 1) (wordsOf bs)) ≡ count isChange (slice a i (wordsOf bs)) + x
     unfolding count
     one-counted =
         ap (count isChange) one-more
-        ∙ counts isChange (slice a i (wordsOf bs)) (at (wordsOf bs) i ∷ [])
+        ∙ count-append isChange (slice a i (wordsOf bs)) (at (wordsOf bs) i ∷ [])
         ∙ rw (← word) (omega (arith, bit))
 
     pub back-on :
@@ -133,7 +124,7 @@ module _ {bs : List ℕ} {l : End} {homeAt : ℕ} (b : LeftCounted bs l homeAt) 
         b .few,
         b .changes,
         ap (count isChange) parts,
-        counts isChange (slice first homeAt (wordsOf bs)) (wordsFrom bs homeAt),
+        count-append isChange (slice first homeAt (wordsOf bs)) (wordsFrom bs homeAt),
       )
 
   pub start-right :
@@ -284,7 +275,7 @@ module _ (e : Entry) (bs : List ℕ) (l r : ℕ) (after-l : l < e .homePlace) (b
     all-homes = rw add-one (housed .as-many)
 
     run-homes : count isVirgin run ≡ homes + count isVirgin (slice (e .homePlace) r (wordsOf bs))
-    run-homes = ap (count isVirgin) cut ∙ counts isVirgin left (slice (e .homePlace) r (wordsOf bs))
+    run-homes = ap (count isVirgin) cut ∙ count-append isVirgin left (slice (e .homePlace) r (wordsOf bs))
 
     same-start : groupStart bs l (e .homePlace) ≡ words
     same-start =
@@ -347,7 +338,7 @@ module _ (e : Entry) (bs : List ℕ) (l r : ℕ) (after-l : l < e .homePlace) (b
         LeftCounted bs end (e .homePlace)
     unfolding count
     housed-beside end here virgins-are changes-are =
-        let all = ap (count isChange) (beyond (l + 1) (omega arith)) ∙ counts isChange run (wordsFrom bs r) in
+        let all = ap (count isChange) (beyond (l + 1) (omega arith)) ∙ count-append isChange run (wordsFrom bs r) in
         record {
           before = omega (arith, here);
           within = omega arith;

@@ -80,23 +80,6 @@ virgins-above c b (w ∷ vs) h = go (w .virgin) (virgins-above c (suc b) vs (ome
     go true rest = above-next h rest
     go false rest = rest
 
-pub virgins-append :
-    (a : ℕ) (us vs : List Word) → virginPlaces a (us ++ vs) ≡ virginPlaces a us ++ virginPlaces (a + length us) vs
-unfolding virginPlaces
-virgins-append a [] vs = ap (λ (n : ℕ). virginPlaces n vs) (sym (add-zero a))
-virgins-append a (w ∷ us) vs = go (w .virgin) (rw (next a us) at (virgins-append (suc a) us vs))
-  where
-    next : (a : ℕ) (us : List Word) → suc a + length us ≡ a + suc (length us)
-    next a us = omega arith
-
-    go :
-        (b : Bool) →
-        virginPlaces (suc a) (us ++ vs) ≡ virginPlaces (suc a) us ++ virginPlaces (a + suc (length us)) vs →
-        cond b (a ∷ virginPlaces (suc a) (us ++ vs)) (virginPlaces (suc a) (us ++ vs))
-        ≡ cond b (a ∷ virginPlaces (suc a) us) (virginPlaces (suc a) us) ++ virginPlaces (a + suc (length us)) vs
-    go true e = ap (λ (hs : List ℕ). a ∷ hs) e
-    go false e = e
-
 -- ---- groups of earlier homes
 passed-none : (ws : List Word) → passed ws 0 ≡ 0
 unfolding passed

@@ -1,10 +1,12 @@
--- Whether all of a list pass a test, asked one by one from the left: the laws of such a loop.
+-- Whether all of a list pass a test, `all`. `all-on` to `all-told`: asked one by one from the left, the laws of such a
+-- loop. `all-at`: what holds of all holds at a place. `all-append`: over lists joined.
 -- Assumes nothing.
-use Prim.Native.Nat.{ℕ, _+_, _≤_, _<_}
-use mathlib.Core.Path.{_≡_}
-use mathlib.Core.Bool.{Bool, true, false, _&&_, and-true, and-assoc}
-use mathlib.Core.List.{List}
+use Prim.Native.Nat.{ℕ, zero, suc, _+_, _≤_, _<_}
+use mathlib.Core.Path.{_≡_, refl, sym}
+use mathlib.Core.Bool.{Bool, true, false, _&&_, and-true, and-assoc, and-eq-true-iff}
+use mathlib.Core.List.{List, [], _∷_, _++_}
 use native.Mathlib.Numerals.{add-one}
+use native.Mathlib.Omega.{arith}
 use lib.ListN.{length, getD, drop, drop-of-length-le}
 use lib.Seq.{drop-cons}
 use Rattle.rules.specs.Lists.{all}
@@ -34,3 +36,15 @@ module _ {A : Type 0} (f : A → Bool) (xs : List A) (i : ℕ) (d : A) where
 
   pub all-told : length xs ≤ i → (b : Bool) → (b && all f (drop i xs)) ≡ b
   all-told done b = rw (all-ends done) (and-true b)
+
+module _ {A : Type 0} (f : A → Bool) where
+  pub all-at : (xs : List A) (i : ℕ) (d : A) → all f xs ≡ true → i < length xs → f (getD xs i d) ≡ true
+  unfolding all
+  all-at [] i d h inside = absurd (omega arith)
+  all-at (x ∷ xs) zero d h inside = and-eq-true-iff (f x) _ .0 h .0
+  all-at (x ∷ xs) (suc i) d h inside = all-at xs i d (and-eq-true-iff (f x) _ .0 h .1) (omega arith)
+
+  pub all-append : (xs ys : List A) → all f (xs ++ ys) ≡ (all f xs && all f ys)
+  unfolding all
+  all-append [] ys = refl
+  all-append (x ∷ xs) ys = rw (all-append xs ys) (sym (and-assoc (f x) (all f xs) (all f ys)))

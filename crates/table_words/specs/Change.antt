@@ -2,28 +2,21 @@
 -- `with-lock` to `with-payload`, `alone`: the number of a word with a field changed, as the rules change it.
 -- Assumes nothing.
 use Prim.Native.Nat.{ℕ, _+_, _*_, _/_, _%_, _<_}
-use mathlib.Core.Path.{_≡_, refl, sym, _∙_, ap}
+use mathlib.Core.Path.{_≡_, sym, _∙_, ap}
 use mathlib.Core.Bool.{Bool, true, false, not, _&&_, and-true, and-false}
 use native.Mathlib.Omega.{arith}
 use lib.Dec.{eqb}
-use borrow.Author.Tests.{eq-eqb, ne-eqb, eqb-true, eqb-false}
+use borrow.Author.Tests.{ne-eqb}
 use Rattle.rules.specs.Lists.{bitOf}
 use Rattle.rules.specs.Word.{Word, wordOf, numberOf, isVoid, isZero, isLock}
 use Rattle.rules.specs.Word.{withLock, withVirgin, withChange, filledWith, withPayload}
-use Rattle.rules.specs.Phase.{aloneWord}
+use Rattle.rules.specs.Word.{aloneWord}
+use Rattle.table_words.specs.Tests.{same-test}
 use Rattle.table_words.specs.Number.{Small, small, remainder-small, number-of-word, word-of-number, fields}
 
 -- a number that is the number of w makes w
 number-is : (k : ℕ) (w : Word) → w .remainder < 4096 → k ≡ numberOf w → wordOf k ≡ w
 number-is k w h e = ap wordOf e ∙ word-of-number w h
-
--- two tests of equality that hold together have one value
-same-test : (a b c d : ℕ) → (a ≡ b → c ≡ d) → (c ≡ d → a ≡ b) → eqb a b ≡ eqb c d
-same-test a b c d to back = go (eqb a b) refl
-  where
-    go : (t : Bool) → eqb a b ≡ t → t ≡ eqb c d
-    go true e = sym (eq-eqb c d (to (eqb-true a b e)))
-    go false e = sym (ne-eqb c d (λ q. eqb-false a b e (back q)))
 
 -- the number of a word's fields, the lock bit aside
 abbrev unlocked : ℕ → Bool → Bool → Bool → ℕ

@@ -1,8 +1,9 @@
 -- Bytes cleared from the left, one a turn. `Cleared` is the loop's invariant; `clear-more`, `clear-ends` are its laws.
+-- `take-replicate`: of one thing repeated, some are fewer of it.
 -- Assumes nothing.
-use Prim.Native.Nat.{ℕ, _+_, _≤_, _<_}
-use mathlib.Core.Path.{_≡_, sym, _∙_, ap, ap₂}
-use mathlib.Core.List.{List, _++_}
+use Prim.Native.Nat.{ℕ, zero, suc, _+_, _≤_, _<_}
+use mathlib.Core.Path.{_≡_, refl, sym, _∙_, ap, ap₂}
+use mathlib.Core.List.{List, _∷_, _++_}
 use native.Mathlib.Numerals.{add-one}
 use native.Mathlib.Omega.{arith}
 use lib.ListN.{length, set, take, drop, replicate, length-set, take-append-drop, replicate-append-replicate}
@@ -36,3 +37,8 @@ clear-ends {bs₀} {bs} {n} {i} c h =
     sym (take-append-drop i bs)
     ∙ ap₂ (λ (f b : List ℕ). f ++ b) (c .front) (c .back)
     ∙ ap (λ (k : ℕ). replicate k 0 ++ drop k bs₀) end
+
+pub take-replicate : {A : Type 0} (k n : ℕ) (a : A) → k ≤ n → take k (replicate n a) ≡ replicate k a
+take-replicate zero n a le = refl
+take-replicate (suc k) zero a le = absurd (omega arith)
+take-replicate {A} (suc k) (suc n) a le = ap (λ (rest : List A). a ∷ rest) (take-replicate k n a (omega arith))

@@ -1,15 +1,19 @@
 -- A table's bytes and its words determine each other at an even length: `words-of-bytes`, `bytes-of-words`.
 -- So what a contract says of the words it says of every lent byte: `bytes-are`, `same-bytes`.
--- `word-at`, `word-set`: one word read and written. `words-length`, `bytes-length`: how many there are.
+-- `word-at`, `word-set`: one word read and written. `words-length`, `bytes-length`: how many there are;
+-- `change-length` to `exchange-length`: as many after a change. `same-words`: words are told by their places.
 -- Assumes nothing.
 use Prim.Native.Nat.{ℕ, zero, suc, _+_, _*_, _/_, _%_, _<_}
 use mathlib.Core.Path.{_≡_, refl, sym, _∙_, ap, ap₂}
+use mathlib.Core.Bool.{Bool}
 use mathlib.Core.List.{List, [], _∷_}
 use native.Mathlib.Omega.{arith}
-use lib.ListN.{length, getD, set}
-use Rattle.rules.specs.Word.{Word, wordOf, numberOf}
+use lib.ListN.{length, getD, set, length-set}
+use lib.Seq.{ext-getD}
+use Rattle.rules.specs.Word.{Word, zeroWord, wordOf, numberOf}
 use Rattle.rules.specs.Bytes.{wordsOf, bytesOf}
 use Rattle.rules.specs.Table.{at}
+use Rattle.rules.specs.Phase.{setChange, setVirgin, exchange}
 use Rattle.table_words.specs.Number.{remainder-small, number-of-word, word-of-number}
 
 -- the bytes of the next place are two further on
@@ -55,6 +59,23 @@ pub bytes-length : (ws : List Word) → length (bytesOf ws) ≡ 2 * length ws
 unfolding bytesOf
 bytes-length [] = refl
 bytes-length (w ∷ ws) = let e = bytes-length ws in omega arith
+
+-- a change in place leaves as many words
+pub change-length : (ws : List Word) (p : ℕ) (b : Bool) → length (setChange ws p b) ≡ length ws
+unfolding setChange
+change-length ws p b = length-set ws p _
+
+pub virgin-length : (ws : List Word) (p : ℕ) → length (setVirgin ws p) ≡ length ws
+unfolding setVirgin
+virgin-length ws p = length-set ws p _
+
+pub exchange-length : (ws : List Word) (p q : ℕ) → length (exchange ws p q) ≡ length ws
+unfolding exchange
+exchange-length ws p q = simp length-set
+
+-- words that are the same at each place are the same words
+pub same-words : (ws vs : List Word) → length ws ≡ length vs → ((p : ℕ) → at ws p ≡ at vs p) → ws ≡ vs
+same-words ws vs size alike = ext-getD zeroWord ws vs size (λ p lt. alike p)
 
 -- each word of a table has its remainder below 2^12
 pub remainders-small : (bs : List ℕ) (p : ℕ) → at (wordsOf bs) p .remainder < 4096

@@ -5,7 +5,7 @@ ghost use mathlib.Core.Bool.{true};
 ghost use Prim.Native.Nat.{_<_};
 ghost use Rattle.rules.specs.Word.{wordOf, isVoid, isZero, isLock};
 ghost use Rattle.rules.specs.Word.{withLock, withVirgin, withChange, filledWith, withPayload};
-ghost use Rattle.rules.specs.Phase.{aloneWord};
+ghost use Rattle.rules.specs.Word.{aloneWord};
 
 pub fn remainder(w: u16) -> u16
     ensures { λ x. ⌜ x ≡ wordOf w .remainder ⌝ }

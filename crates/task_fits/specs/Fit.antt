@@ -1,10 +1,10 @@
 -- When a record fits (01, Tasks and their steps). `Fits`: what holds of a busy one; `fitting`: its test tells it.
--- `resting` to `beyond-fits`: how the phase alone decides. `work-none`: where hand, goal and mark are not asked about.
+-- `resting-fits` to `beyond-fits`: how the phase alone decides. `work-none`: where hand, goal and mark are not asked about.
 -- Assumes nothing.
 use Prim.Native.Nat.{suc, _≤_, _<_}
 use mathlib.Core.Path.{_≡_, refl, sym}
 use mathlib.Core.Bool.{Bool, true, false, not, _&&_, _||_, and-eq-true-iff, true≢false}
-use mathlib.Core.Logic.{_⊎_, inl, inr}
+use mathlib.Core.Logic.{inl}
 use native.Mathlib.Omega.{arith}
 use lib.Dec.{ltb, leb, eqb}
 use borrow.Author.Tests.{le-leb, lt-leb, eq-eqb, ne-eqb, ltb-true, leb-true, eqb-false, not-true}
@@ -12,6 +12,8 @@ use Rattle.rules.specs.declared.Shape.{Shape}
 use Rattle.rules.specs.declared.Task.{Task}
 use Rattle.rules.specs.Shape.{homes, keys, rightGuard}
 use Rattle.rules.specs.Record.{homePlaceOf, within, implies, busy, atRest, fitsHand, fitsBusy, fits}
+use Rattle.table_words.specs.Tests.{Between, inside, between}
+use Rattle.table_words.specs.Busy.{Resting, resting, not-resting, is-busy, done-or-beyond, fits-works}
 
 -- what is asked of hand, goal and mark: the last four of the rules' tests of a busy record
 unfoldable pub fitsWork : Shape → Task → Bool
@@ -35,34 +37,6 @@ work-none sh t not-8 not-9 not-10 =
     go true e =
         let low = leb-true 8 (t .phase) e in
         rw (lt-leb (t .phase) 10 (omega arith))
-
--- phases 0 and 13
-abbrev pub Resting : Task → Type 0
-Resting t = (t .phase ≡ 0) ⊎ (t .phase ≡ 13)
-
-module _ (t : Task) where
-  pub resting : Resting t → atRest t ≡ true
-  unfolding atRest
-  resting (inl e) = rw e
-  resting (inr e) = rw e
-
-  pub not-resting : (Resting t → ⊥) → atRest t ≡ false
-  unfolding atRest
-  not-resting awake =
-      rw (ne-eqb (t .phase) 0 (λ e. awake (inl e)), ne-eqb (t .phase) 13 (λ e. awake (inr e)))
-
-  -- phases 1 to 12
-  pub is-busy : (t .phase ≡ 0 → ⊥) → t .phase < 13 → busy t ≡ true
-  unfolding busy
-  is-busy not-idle h = rw (le-leb 1 (t .phase) (omega arith), le-leb (t .phase) 12 (omega arith))
-
-  pub idle : t .phase ≡ 0 → busy t ≡ false
-  unfolding busy
-  idle e = rw e
-
-  pub done-or-beyond : 13 ≤ t .phase → busy t ≡ false
-  unfolding busy
-  done-or-beyond h = rw (le-leb 1 (t .phase) (omega arith), lt-leb (t .phase) 12 (omega arith))
 
 module _ (sh : Shape) (t : Task) where
   pub resting-fits : Resting t → fits sh t ≡ true
@@ -111,13 +85,13 @@ fitting-hand sh t e =
     let (e, goal-between) = both _ (within (t .left) (t .right) (t .goal)) e in
     let (e, hand-between) = both _ (within (t .left) (t .right) (t .hand)) e in
     let (hand, goal) = both (within 1 (homes sh) (t .hand)) (within 1 (homes sh) (t .goal)) e in
-    let (hand-low, hand-high) = both (leb 1 (t .hand)) (leb (t .hand) (homes sh)) hand in
-    let (goal-low, goal-high) = both (leb 1 (t .goal)) (leb (t .goal) (homes sh)) goal in
+    let hand-in = between 1 (homes sh) (t .hand) hand in
+    let goal-in = between 1 (homes sh) (t .goal) goal in
     record {
-      hand-low = leb-true 1 (t .hand) hand-low;
-      hand-high = leb-true (t .hand) (homes sh) hand-high;
-      goal-low = leb-true 1 (t .goal) goal-low;
-      goal-high = leb-true (t .goal) (homes sh) goal-high;
+      hand-low = hand-in .least;
+      hand-high = hand-in .most;
+      goal-low = goal-in .least;
+      goal-high = goal-in .most;
       mark-one = λ one.
           leb-true 2 (t .goal)
           (both (leb 2 (t .goal)) (ltb (t .left) (t .goal))
@@ -134,29 +108,22 @@ fitting-busy sh t e =
     let (e, right) =
     both _ (implies (leb 3 (t .phase)) (within (suc (homePlaceOf sh t)) (rightGuard sh) (t .right))) e in
     let (key, left) = both (ltb (t .key) (keys sh)) (implies (leb 2 (t .phase)) (ltb (t .left) (homePlaceOf sh t))) e in
-    let right-asked : 3 ≤ t .phase → within (suc (homePlaceOf sh t)) (rightGuard sh) (t .right) ≡ true =
-    λ h. asked (leb 3 (t .phase)) _ right (le-leb 3 (t .phase) h) in
+    let right-in : 3 ≤ t .phase → Between (suc (homePlaceOf sh t)) (rightGuard sh) (t .right) =
+    λ h. between _ _ (t .right) (asked (leb 3 (t .phase)) _ right (le-leb 3 (t .phase) h)) in
     record {
       key = ltb-true (t .key) (keys sh) key;
       left = λ h. ltb-true (t .left) (homePlaceOf sh t) (asked (leb 2 (t .phase)) _ left (le-leb 2 (t .phase) h));
-      right-low = λ h.
-          leb-true (suc (homePlaceOf sh t)) (t .right) (both _ (leb (t .right) (rightGuard sh)) (right-asked h) .0);
-      right-high = λ h.
-          leb-true (t .right) (rightGuard sh) (both (leb (suc (homePlaceOf sh t)) (t .right)) _ (right-asked h) .1);
-      hand = λ low high.
-          fitting-hand sh t
-          (asked (within 8 10 (t .phase)) _ hand (rw (le-leb 8 (t .phase) low, le-leb (t .phase) 10 high)));
+      right-low = λ h. right-in h .least;
+      right-high = λ h. right-in h .most;
+      hand = λ low high. fitting-hand sh t (asked (within 8 10 (t .phase)) _ hand (inside 8 10 (t .phase) low high));
       apart = λ h.
           eqb-false (t .hand) (t .goal) (not-true _ (asked (eqb (t .phase) 9) _ nine (eq-eqb (t .phase) 9 h)));
     }
 
 -- a record that fits and is not at rest is busy, and all of this holds of it
 pub fitting : (sh : Shape) (t : Task) → fits sh t ≡ true → atRest t ≡ false → Fits sh t
-unfolding fits
-fitting sh t e rest = fitting-busy sh t (both (busy t) (fitsBusy sh t) (rw rest at e) .1)
+fitting sh t e rest = fitting-busy sh t (fits-works t sh e rest .1)
 
 pub fitting-phase : (sh : Shape) (t : Task) → fits sh t ≡ true → atRest t ≡ false → (1 ≤ t .phase) × (t .phase ≤ 12)
-unfolding fits busy
-fitting-phase sh t e rest =
-    let (low, high) = both (leb 1 (t .phase)) (leb (t .phase) 12) (both (busy t) (fitsBusy sh t) (rw rest at e) .0) in
-    (leb-true 1 (t .phase) low, leb-true (t .phase) 12 high)
+unfolding busy
+fitting-phase sh t e rest = let b = between 1 12 (t .phase) (fits-works t sh e rest .0) in (b .least, b .most)

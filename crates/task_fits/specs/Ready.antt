@@ -9,7 +9,6 @@ use native.Mathlib.Omega.{arith}
 use lib.ListN.{length}
 use Rattle.rules.specs.declared.Shape.{Shape}
 use Rattle.rules.specs.declared.Task.{Task}
-use Rattle.rules.specs.Word.{isVoid}
 use Rattle.rules.specs.Bytes.{wordsOf}
 use Rattle.rules.specs.Shape.{homes, places, rightGuard}
 use Rattle.rules.specs.Entry.{remainderOf}
@@ -17,8 +16,7 @@ use Rattle.rules.specs.Table.{at, guardsVoid}
 use Rattle.rules.specs.Record.{homePlaceOf}
 use Rattle.table_words.specs.Range.{InRange, homes-high, remainders-high}
 use Rattle.table_words.specs.Split.{split-in-shape, remainder-below}
-use Rattle.theory.specs.Dealt.{and-left}
-use Rattle.theory.specs.Places.{void-free}
+use Rattle.theory.specs.Places.{left-free}
 use Rattle.theory.specs.Motion.{toward, toward-lt}
 use Rattle.table_cluster.specs.Ends.{some-before}
 use Rattle.task_fits.specs.Fit.{Fits, FitsHand}
@@ -108,8 +106,7 @@ module _ {n : ℕ} {sh : Shape} {bytes : List ℕ} {t : Task} (ready : Ready n s
 
   -- the left guard is unoccupied, so an occupied place is another
   pub guard-free : at (wordsOf bytes) 0 .occupied ≡ false
-  unfolding guardsVoid
-  guard-free = void-free (at (wordsOf bytes) 0) (and-left (isVoid (at (wordsOf bytes) 0)) _ (ready .guards))
+  guard-free = left-free sh (wordsOf bytes) (ready .guards)
 
   pub occupied-positive : (p : ℕ) → at (wordsOf bytes) p .occupied ≡ true → 1 ≤ p
   occupied-positive p full = some-before (wordsOf bytes) p guard-free full

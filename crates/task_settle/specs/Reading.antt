@@ -5,7 +5,7 @@
 use Prim.Native.Nat.{ℕ, suc, _+_, _-_, _*_, _≤_, _<_}
 use mathlib.Core.Path.{_≡_, refl, sym, _∙_, ap}
 use mathlib.Core.Bool.{Bool, true, false, cond, _&&_}
-use mathlib.Core.List.{List, [], _∷_}
+use mathlib.Core.List.{List}
 use native.Mathlib.Numerals.{add-one}
 use native.Mathlib.Omega.{arith}
 use lib.ListN.{length, getD}
@@ -13,21 +13,23 @@ use lib.Seq.{length-slice}
 use lib.Dec.{eqb}
 use Rattle.rules.specs.declared.Shape.{Shape}
 use Rattle.rules.specs.declared.Task.{Task}
-use Rattle.rules.specs.Lists.{count, all}
-use Rattle.rules.specs.Word.{Word, isVoid, isLock}
+use Rattle.rules.specs.Lists.{all}
+use Rattle.rules.specs.Word.{Word, zeroWord, isVoid, isLock}
 use Rattle.rules.specs.Bytes.{wordsOf}
 use Rattle.rules.specs.Shape.{places, rightGuard}
-use Rattle.rules.specs.Entry.{Entry, split, precedes}
-use Rattle.rules.specs.Table.{at, occupiedPlaces, leftGap, between, soundRun, due, deal, virginPlaces, entriesBetween}
+use Rattle.rules.specs.Entry.{Entry, split}
+use Rattle.rules.specs.Table.{at, occupiedPlaces, leftGap, between, soundRun, entriesBetween}
 use Rattle.rules.specs.Record.{homePlaceOf, toPhase, withHand, withGoal, withAnswer}
-use Rattle.rules.specs.Phase.{smaller, handOf, goalOf, readEntries, readable}
+use Rattle.rules.specs.Phase.{handOf, goalOf, readEntries, readable}
+use Rattle.rules.specs.Lay.{smaller}
 use Rattle.table_words.specs.Range.{homes-high}
-use Rattle.table_words.specs.Number.{bit-small}
 use Rattle.table_words.specs.Layout.{words-length}
+use Rattle.table_words.specs.All.{all-at}
 use Rattle.theory.specs.Dealt.{isOccupied, and-left, and-right}
 use Rattle.theory.specs.Gaps.{TakenFrom, leftGap-is, gap-only}
 use Rattle.theory.specs.Gaps as gaps
-use Rattle.theory.specs.Places.{void-free, all-at, occupied-at}
+use Rattle.theory.specs.Places.{void-free, occupied-at}
+use Rattle.theory.specs.Moving.{smaller-inside}
 use Rattle.theory.specs.Cut.{between-at}
 use Rattle.table_read.specs.declared.read.Read.{Read}
 use Rattle.table_cluster.specs.declared.gaps.End.{End}
@@ -60,7 +62,7 @@ between-taken ws l r inside full q low high =
     ap (λ (p : ℕ). getD (occupiedPlaces ws) p false) (sym here)
     ∙ occupied-at ws (suc l + (q - suc l))
     ∙ ap isOccupied (sym (between-at ws l r (q - suc l) (omega arith)))
-    ∙ all-at isOccupied (between ws l r) (q - suc l) full (omega (arith, length-slice (suc l) r ws inside))
+    ∙ all-at isOccupied (between ws l r) (q - suc l) zeroWord full (omega (arith, length-slice (suc l) r ws inside))
 
 -- ---- what can be read is the cluster of the home, so that left is its left end
 module _ {sh : Shape} {bs : List ℕ} {t : Task} (now : Ready 7 sh bs t) (can : readable sh (wordsOf bs) t ≡ true) where
@@ -138,29 +140,6 @@ module _ {sh : Shape} {bs : List ℕ} {t : Task} (now : Ready 7 sh bs t) (can : 
       ap (λ (p : ℕ). readFrom bs p own) (ap (λ (e : End). e .gap .0) is ∙ left-is)
       ∙ read-from own bs (t .left) (t .right) after before within small housed
 
--- a test counts no more than there are
-count-le : {A : Type 0} (f : A → Bool) (xs : List A) → count f xs ≤ length xs
-unfolding count
-count-le f [] = omega arith
-count-le f (x ∷ xs) = omega (arith, count-le f xs, bit-small (f x))
-
--- a run has an entry at each place
-deal-length : (hs : List ℕ) (ws : List Word) → length (deal hs ws) ≡ length ws
-unfolding deal
-deal-length hs [] = refl
-deal-length hs (w ∷ ws) = ap suc (deal-length (due (w .change) hs) ws)
-
-smaller-between :
-    (e : Entry) (ws : List Word) (l r : ℕ) → l < r → r ≤ length ws → l + smaller e (entriesBetween ws l r) < r
-unfolding smaller entriesBetween
-smaller-between e ws l r low high =
-    omega (
-      arith,
-      count-le (λ (f : Entry). precedes f e) (deal (virginPlaces (suc l) (between ws l r)) (between ws l r)),
-      deal-length (virginPlaces (suc l) (between ws l r)) (between ws l r),
-      length-slice (suc l) r ws high,
-    )
-
 pub goal-small :
     {n : ℕ} {sh : Shape} {bytes : List ℕ} {t : Task} → Ready n sh bytes t → 3 ≤ n → (e : Entry) →
     t .left + smaller e (entriesBetween (wordsOf bytes) (t .left) (t .right)) < 4294967295
@@ -168,5 +147,5 @@ unfolding places rightGuard
 goal-small {n} {sh} {bytes} {t} ready h e =
     let high = ready .fits .right-high (omega arith) in
     let size = words-length bytes (places sh) (ready .size) in
-    let room = smaller-between e (wordsOf bytes) (t .left) (t .right) (ends-apart ready h) (omega arith) in
-    omega (arith, homes-high sh (ready .range))
+    let room = smaller-inside (wordsOf bytes) (t .left) (t .right) e (omega arith) in
+    omega (arith, ends-apart ready h, homes-high sh (ready .range))

@@ -4,8 +4,8 @@
 -- Assumes nothing.
 use Prim.Native.Nat.{ℕ, zero, suc, _+_, _*_, _≤_, _<_}
 use mathlib.Core.Path.{_≡_, refl, sym, ap, ap₂, _∙_, subst, subst₂}
-use mathlib.Core.Bool.{Bool, true, false, _||_, or-assoc, true≢false}
-use mathlib.Core.List.{List, [], _∷_, _++_, append-assoc}
+use mathlib.Core.Bool.{Bool, true, false, _||_, true≢false}
+use mathlib.Core.List.{List, [], _∷_, _++_, append-assoc, map-append}
 use native.Mathlib.Omega.{arith}
 use native.Mathlib.Nat.{le-refl}
 use lib.ListN.{length, replicate, length-append, length-map, set}
@@ -19,7 +19,8 @@ use Rattle.rules.specs.Put.{layRun}
 use Rattle.theory.specs.Run.{Asc, none, Run}
 use Rattle.theory.specs.Every as every
 use Rattle.theory.specs.Insert.{asc-weaken, asc-below, insert-asc, insert-length, insert-front, insert-back}
-use Rattle.theory.specs.Joined.{map-append, run-append}
+use Rattle.theory.specs.Locks.{locked-append}
+use Rattle.theory.specs.Joined.{run-append}
 use Rattle.theory.specs.Seen.{Right, right-end, right-more, Left, left-start, left-more, Table, whole, left-asc}
 use Rattle.theory.specs.Seen.{right-asc}
 use Rattle.theory.specs.Seen.{AtGap, InRun}
@@ -126,12 +127,6 @@ pub record Added (d : ℕ) (ws : List Word) (es : List Entry) (e : Entry) (p : �
   pub table : Table d vs (insert e es)
   pub free : locked ws ≡ false → locked vs ≡ false
   pub places : occupiedPlaces vs ≡ set (occupiedPlaces ws) p true
-
-pub locked-append : (u v : List Word) → locked (u ++ v) ≡ (locked u || locked v)
-unfolding locked any
-locked-append [] v = refl
-locked-append (w ∷ u) v =
-    ap (λ (b : Bool). w .lock || b) (locked-append u v) ∙ sym (or-assoc (w .lock) (locked u) (locked v))
 
 pub or-parts : (a b : Bool) → (a || b) ≡ false → (a ≡ false) × (b ≡ false)
 or-parts true b e = absurd (true≢false e)

@@ -4,7 +4,7 @@
 -- Assumes nothing.
 use Prim.Native.Nat.{ℕ, suc, _≤_, _<_}
 use mathlib.Core.Path.{_≡_, refl, sym, ap, ap₂, _∙_, subst}
-use mathlib.Core.Bool.{Bool, true, false, cond, _||_, true≢false, false≢true}
+use mathlib.Core.Bool.{Bool, true, false, cond, _||_, or-false, true≢false, false≢true}
 use mathlib.Core.List.{List, [], _∷_}
 use native.Mathlib.Omega.{arith}
 use native.Mathlib.Nat.{le-refl, le-of-eq}
@@ -25,8 +25,8 @@ use Rattle.theory.specs.Insert.{holds-below}
 use Rattle.theory.specs.Insert.{holds-head, same-eq, same-refl, same-not, insert-asc, insert-length}
 use Rattle.theory.specs.Insert.{holds-insert, insert-held, insert-comm, holds-ascend}
 use Rattle.theory.specs.Dealt.{or-right}
-use Rattle.theory.specs.Joined.{or-none}
 use Rattle.theory.specs.Gaps.{HomePlace}
+use Rattle.theory.specs.Keys.{home-place, within-in-shape}
 use Rattle.theory.specs.Order.{fillAt, fillPlaces, fills-commute, taken, room-place}
 use Rattle.theory.specs.Seen.{Table, table, right-asc}
 use Rattle.theory.specs.Places.{occupied-length}
@@ -115,10 +115,7 @@ table-asc s (table void right) = asc-weaken (le-refl _) (omega arith) (right-asc
 
 -- an entry of those has its home place and its remainder in the shape
 pub in-home : {sh : Shape} {us : List Entry} (e : Entry) → Roomy sh us → holds e us ≡ true → HomePlace sh (e .homePlace)
-unfolding rightGuard
-in-home e u h =
-    let w = held-all e (asc-all (u .asc)) h in
-    record { first = omega (arith, w .above, w .low, u .low); last = omega (arith, w .inside) }
+in-home e u h = home-place (within-in-shape _ e (u .low) (held-all e (asc-all (u .asc)) h))
 
 pub in-low : {sh : Shape} {us : List Entry} (e : Entry) → Roomy sh us → holds e us ≡ true → e .remainder < remainders sh
 in-low e u h = held-all e (asc-all (u .asc)) h .low
@@ -440,7 +437,7 @@ module _ {sh : Shape} {us : List Entry} (u : Roomy sh us) where
       State sh ws es → Inside es us → Inside ks us → Left ks es (puts sh ws ks)
   unfolding puts holds any
   puts-state [] ws es t inside ks-in =
-      record { shown = es; state = t; inside = inside; held = λ x. sym (or-none (holds x es)) }
+      record { shown = es; state = t; inside = inside; held = λ x. sym (or-false (holds x es)) }
   puts-state (k ∷ ks) ws es t inside ks-in =
       further
       (puts-state

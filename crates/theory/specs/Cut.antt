@@ -17,11 +17,11 @@ use Rattle.rules.specs.Lists.{all}
 use Rattle.rules.specs.Word.{Word, zeroWord, isVoid}
 use Rattle.rules.specs.Shape.{places, rightGuard}
 use Rattle.rules.specs.Table.{at, occupiedPlaces, leftGap, rightGap, between, guardsVoid}
-use Rattle.theory.specs.Dealt.{isOccupied, and-left, and-right, and-both}
+use Rattle.theory.specs.Dealt.{isOccupied, and-right, and-both}
 use Rattle.theory.specs.Gaps.{Side, Free, Taken, TakenFrom, Guarded, HomePlace, Gap, gap-is, gap-first}
 use Rattle.theory.specs.Gaps.{gap-below, gap-above}
 use Rattle.theory.specs.Gaps as gaps
-use Rattle.theory.specs.Places.{void-free, occupied-at, occupied-length}
+use Rattle.theory.specs.Places.{void-free, left-free, occupied-at, occupied-length}
 use Rattle.theory.specs.Side.{beside, begins, stands}
 
 -- the words before place l, at it, between it and place r, at that, and after it
@@ -143,7 +143,7 @@ unfolding guardsVoid
 void-guarded sh ws size void =
     record {
       size = occupied-length ws ∙ size;
-      left = occupied-at ws 0 ∙ void-free _ (and-left (isVoid (at ws 0)) _ void);
+      left = occupied-at ws 0 ∙ left-free sh ws void;
       right = occupied-at ws (rightGuard sh) ∙ void-free _ (and-right (isVoid (at ws 0)) _ void);
     }
 

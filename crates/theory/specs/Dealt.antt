@@ -4,7 +4,7 @@
 -- Assumes nothing.
 use Prim.Native.Nat.{ℕ, suc, _+_, _*_, _≤_, _<_}
 use mathlib.Core.Path.{_≡_, refl, sym, ap, ap₂, _∙_}
-use mathlib.Core.Bool.{Bool, true, false, not, _&&_, _||_, false≢true}
+use mathlib.Core.Bool.{Bool, true, false, not, _&&_, _||_, or-self-left, false≢true}
 use mathlib.Core.List.{List, [], _∷_, map}
 use native.Mathlib.Omega.{arith}
 use native.Mathlib.Nat.{add-zero}
@@ -143,6 +143,12 @@ deal-cons :
 unfolding deal
 deal-cons h hs w ws b c = ap (λ (x : Bool). record { homePlace = h; remainder = w .remainder } ∷ deal (due x (h ∷ hs)) ws) c
 
+-- an entry for each word
+pub deal-length : (hs : List ℕ) (ws : List Word) → length (deal hs ws) ≡ length ws
+unfolding deal
+deal-length hs [] = refl
+deal-length hs (w ∷ ws) = ap suc (deal-length (due (w .change) hs) ws)
+
 pub dealt-deal : {d : ℕ} {hs : List ℕ} {ws : List Word} {es : List Entry} → Dealt d hs ws es → deal hs ws ≡ es
 unfolding deal
 dealt-deal dealt-none = refl
@@ -209,11 +215,7 @@ unfolding hasHome any among
 dealt-homes x dealt-none = refl
 dealt-homes x (dealt-ends {h = h} c l p q rest) = ap₂ (λ (y : ℕ) (b : Bool). eqb y x || b) p (dealt-homes x rest)
 dealt-homes x (dealt-goes {h = h} {hs = hs} c l r p q rest) =
-    ap₂ (λ (y : ℕ) (b : Bool). eqb y x || b) p (dealt-homes x rest) ∙ twice (eqb h x) (among x hs)
-  where
-    twice : (a b : Bool) → (a || (a || b)) ≡ (a || b)
-    twice true b = refl
-    twice false b = refl
+    ap₂ (λ (y : ℕ) (b : Bool). eqb y x || b) p (dealt-homes x rest) ∙ or-self-left (eqb h x) (among x hs)
 
 -- ---- a strictly ascending list of places, from k on and below c
 pub data Rising (c : ℕ) : ℕ → List ℕ → Type 0 where

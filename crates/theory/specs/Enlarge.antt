@@ -5,11 +5,10 @@ use Prim.Native.Nat.{ℕ, zero, suc, _+_, _-_, _≤_, _<_}
 use native.Mathlib.Nat.{add-zero}
 use native.Mathlib.Omega.{arith}
 use mathlib.Core.Path.{_≡_, refl, sym, ap, _∙_}
-use mathlib.Core.Bool.{Bool, true, false, not, _&&_, false≢true}
+use mathlib.Core.Bool.{Bool, true, false}
 use mathlib.Core.List.{List, _∷_, map}
 use lib.ListN.{length, length-map}
-use lib.Dec.{eqb}
-use borrow.Author.Tests.{eqb-true, ne-eqb}
+use borrow.Author.Tests.{ne-eqb}
 use Rattle.rules.specs.Lists.{any}
 use Rattle.rules.specs.Word.{Word, zeroWord, isVoid}
 use Rattle.rules.specs.Entry.{Entry}
@@ -20,6 +19,7 @@ use Rattle.theory.specs.Run.{Run, unlock}
 use Rattle.theory.specs.Every as every
 use Rattle.theory.specs.Every.{All, all-map}
 use Rattle.theory.specs.Insert.{asc-all}
+use Rattle.theory.specs.Locks.{void-unlock}
 use Rattle.theory.specs.Motion.{fillAt, moves, distance, finish}
 use Rattle.theory.specs.Region.{fillAt-unlock, finish-unlock}
 use Rattle.theory.specs.Payload.{loaded, wedge, map-wedge, wedge-loaded, fillAt-wedge, length-wedge, moves-wedge}
@@ -56,22 +56,6 @@ not-home {run = run} right a low r =
     home-outside (a + length run) (all-map (λ f w e. omega (arith, w .inside)) (asc-all (r .asc)))
 
 -- ---- the words of the region
-
-unlock-void : (g : Word) → isVoid g ≡ true → unlock g ≡ zeroWord
-unfolding isVoid
-unlock-void g h = go (eqb (g .remainder) 0) (g .occupied) (g .virgin) (g .change) refl h
-  where
-    fields : ℕ → Bool → Bool → Bool → Word
-    fields x o v c = record { remainder = x; occupied = o; virgin = v; change = c; lock = false }
-
-    go :
-        (z o v c : Bool) → eqb (g .remainder) 0 ≡ z → (z && (not o && (not v && not c))) ≡ true →
-        fields (g .remainder) o v c ≡ zeroWord
-    go true false false false e k = ap (λ (x : ℕ). fields x false false false) (eqb-true (g .remainder) 0 e)
-    go true false false true e k = absurd (false≢true k)
-    go true false true c e k = absurd (false≢true k)
-    go true true v c e k = absurd (false≢true k)
-    go false o v c e k = absurd (false≢true k)
 
 -- the word that the fill leaves, wedged into the laid run, is a payload on one more site
 filled-loaded :
@@ -133,7 +117,7 @@ fill-beside {run = run} {es = es} side a x g free r =
     ∙ ap (λ (ws : List Word). fillAt x (map unlock ws) i) (beside-wedge side g run)
     ∙ ap
     (λ (ws : List Word). fillAt x ws i)
-    (map-wedge unlock i g run ∙ (λ j. wedge i (unlock-void g free j) (sym (r .laid) j)))
+    (map-wedge unlock i g run ∙ (λ j. wedge i (void-unlock g free j) (sym (r .laid) j)))
     ∙ fillAt-wedge x i zeroWord (layRun (begins side a) es) (omega (arith, index-le side (length run)))
 
 -- the region of a run and a void word beside it, after the fill and finishing, lock bits aside

@@ -3,7 +3,7 @@
 -- Assumes nothing.
 use Prim.Native.Nat.{ℕ, zero, suc, _+_, _≤_, _<_}
 use mathlib.Core.Path.{_≡_, refl, sym, ap, ap₂, _∙_, subst, subst₂}
-use mathlib.Core.Bool.{Bool, true, false, _||_, true≢false}
+use mathlib.Core.Bool.{Bool, true, false, _||_, or-false, true≢false}
 use mathlib.Core.List.{List, [], _∷_, _++_}
 use native.Mathlib.Omega.{arith}
 use lib.ListN.{length, take, drop}
@@ -20,7 +20,6 @@ use Rattle.theory.specs.Run.{Asc}
 use Rattle.theory.specs.Dealt.{isOccupied, and-both}
 use Rattle.theory.specs.RunLaws.{run-is-sound, run-occupied, run-entries}
 use Rattle.theory.specs.Insert.{asc-all, held-all, holds-below, holds-append}
-use Rattle.theory.specs.Joined.{or-none}
 use Rattle.theory.specs.Gaps.{HomePlace}
 use Rattle.theory.specs.Seen.{Table, table, AtGap, InRun, Located, at-gap, in-run, locate, left-asc, right-asc}
 use Rattle.theory.specs.Places.{void-free, at-seam, at-after, gap-left, gap-right, gap-cluster, gap-entries}
@@ -169,7 +168,7 @@ run-surroundings sh {ws} {es} e s low guards free t =
           (holds-right e (left-asc s (t .left)) (omega (arith, t .after)))
           (holds-append e (t .ys) (t .zs)
           ∙ ap (λ (b : Bool). holds e (t .ys) || b) (holds-below e (right-asc s (t .right)) (omega (arith, t .before)))
-          ∙ or-none (holds e (t .ys))));
+          ∙ or-false (holds e (t .ys))));
     }
   where
     vs : List Word

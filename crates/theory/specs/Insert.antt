@@ -5,7 +5,7 @@
 use Prim.Native.Nat.{ℕ, suc, _*_, _≤_, _<_}
 use mathlib.Core.Path.{_≡_, refl, sym, ap, _∙_, subst}
 use mathlib.Core.Logic.{_≢_}
-use mathlib.Core.Bool.{Bool, true, false, _&&_, _||_, true≢false, false≢true, or-assoc}
+use mathlib.Core.Bool.{Bool, true, false, _&&_, _||_, true≢false, false≢true, or-assoc, or-self-left}
 use mathlib.Core.List.{List, [], _∷_, _++_}
 use native.Mathlib.Nat.{le-refl, le-trans}
 use native.Mathlib.Omega.{arith}
@@ -15,7 +15,7 @@ use borrow.Author.Tests.{ltb-true, ltb-false, eqb-true, eq-eqb, lt-ltb, le-ltb}
 use Rattle.rules.specs.Lists.{any, count}
 use Rattle.rules.specs.Entry.{Entry, sameHome, sameEntry, precedes}
 use Rattle.rules.specs.Lay.{holds, insert, ascend}
-use Rattle.rules.specs.Phase.{smaller}
+use Rattle.rules.specs.Lay.{smaller}
 use Rattle.theory.specs.Run.{code, Asc, none, next}
 use Rattle.theory.specs.Every as every
 use Rattle.theory.specs.Every.{All, all-map}
@@ -209,10 +209,6 @@ or-swap true false c = refl
 or-swap false true c = refl
 or-swap false false c = refl
 
-or-twice : (a b : Bool) → (a || b) ≡ (a || (a || b))
-or-twice true b = refl
-or-twice false b = refl
-
 pub holds-insert : (e f : Entry) (es : List Entry) → holds e (insert f es) ≡ (sameEntry e f || holds e es)
 unfolding insert holds any
 holds-insert e f [] = refl
@@ -223,7 +219,7 @@ holds-insert e f (g ∷ es) = go (precedes f g) (sameEntry f g) refl refl (holds
         holds e (insert f es) ≡ (sameEntry e f || holds e es) →
         holds e (insert f (g ∷ es)) ≡ (sameEntry e f || (sameEntry e g || holds e es))
     go true b p q rest = rw p
-    go false true p q rest = rw (p, q, same-eq f g q) (or-twice (sameEntry e g) (holds e es))
+    go false true p q rest = rw (p, q, same-eq f g q) (sym (or-self-left (sameEntry e g) (holds e es)))
     go false false p q rest = rw (p, q, rest) (or-swap (sameEntry e g) (sameEntry e f) (holds e es))
 
 -- an entry that is held is not inserted again

@@ -3,8 +3,8 @@
 -- Assumes nothing.
 use Prim.Native.Nat.{ℕ, suc, _+_, _*_, _≤_, _<_}
 use mathlib.Core.Path.{_≡_, refl, sym, ap, ap₂, _∙_, subst}
-use mathlib.Core.Bool.{Bool, true, false, not, _||_, or-assoc}
-use mathlib.Core.List.{List, [], _∷_, _++_, map}
+use mathlib.Core.Bool.{Bool, true, false, not, _||_, or-assoc, or-false}
+use mathlib.Core.List.{List, [], _∷_, _++_, map, map-append}
 use native.Mathlib.Omega.{arith}
 use native.Mathlib.Nat.{add-zero, le-refl}
 use lib.ListN.{length, replicate, length-append, replicate-append-replicate}
@@ -17,10 +17,6 @@ use Rattle.rules.specs.Lay.{hasHome, endsGroup, lay}
 use Rattle.rules.specs.Put.{layRun}
 use Rattle.theory.specs.Run.{Asc, none, next, unlock, Run}
 use Rattle.theory.specs.Insert.{asc-weaken, asc-append, asc-below}
-
-pub map-append : {A B : Type 0} (f : A → B) (xs ys : List A) → map f (xs ++ ys) ≡ map f xs ++ map f ys
-map-append f [] ys = refl
-map-append f (x ∷ xs) ys = ap (λ (zs : List _). f x ∷ zs) (map-append f xs ys)
 
 -- ---- homes
 pub has-home-append : (xs ys : List Entry) (x : ℕ) → hasHome (xs ++ ys) x ≡ (hasHome xs x || hasHome ys x)
@@ -111,10 +107,6 @@ lay-whole whole other p (e ∷ es) same =
     later i lt = subst (λ (x : ℕ). hasHome whole x ≡ hasHome other x) (omega arith) (same (suc i) (omega arith))
 
 -- ---- two adjoining runs are one
-pub or-none : (a : Bool) → (a || false) ≡ a
-or-none true = refl
-or-none false = refl
-
 pub run-append :
     {d a b : ℕ} {u v : List Word} {xs ys : List Entry} →
     d ≤ 4096 → Run d a u xs → b ≡ a + length u → Run d b v ys → Run d a (u ++ v) (xs ++ ys)
@@ -142,7 +134,7 @@ run-append {d} {a} {b} {u} {v} {xs} {ys} s r at t =
     left-home i lt =
         has-home-append xs ys (a + i)
         ∙ ap (λ (h : Bool). hasHome xs (a + i) || h) (has-home-left (a + i) s right-asc (omega (arith, r .size)))
-        ∙ or-none (hasHome xs (a + i))
+        ∙ or-false (hasHome xs (a + i))
 
     right-home : (i : ℕ) → i < length ys → hasHome (xs ++ ys) (b + i) ≡ hasHome ys (b + i)
     right-home i lt =

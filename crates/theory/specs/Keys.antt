@@ -16,10 +16,11 @@ use Rattle.rules.specs.Word.{Word}
 use Rattle.rules.specs.Entry.{Entry, homeOfPlace, split, join, sameEntry}
 use Rattle.rules.specs.Shape.{homes, remainders, keys, places, rightGuard}
 use Rattle.rules.specs.Lay.{holds}
-use Rattle.table_words.specs.Split.{InShape, split-join, join-split, join-below}
+use Rattle.table_words.specs.Split.{InShape, split-in-shape, split-join, join-split, join-below}
 use Rattle.theory.specs.Run.{code, Asc, none, next}
 use Rattle.theory.specs.Every as every
 use Rattle.theory.specs.Every.{All}
+use Rattle.theory.specs.Gaps.{HomePlace}
 use Rattle.theory.specs.Insert.{Within, asc-all, asc-weaken, asc-append, asc-below, same-eq, same-refl}
 use Rattle.theory.specs.Seen.{Right, right-end, right-more, Table, table}
 
@@ -53,6 +54,16 @@ pub within-in-shape :
 unfolding rightGuard
 within-in-shape sh e s w =
     record { home-low = omega (arith, w .above, w .low); home-high = omega (arith, w .inside); remainder-low = w .low }
+
+pub home-place : {sh : Shape} {e : Entry} → InShape sh e → HomePlace sh (e .homePlace)
+home-place i = record { first = i .home-low; last = i .home-high }
+
+-- the entry of a key in range is within these bounds
+pub split-within : (sh : Shape) (key : ℕ) → key < keys sh → Within (remainders sh) (rightGuard sh) 4096 (split sh key)
+unfolding rightGuard
+split-within sh key lt =
+    let i = split-in-shape sh key lt in
+    record { above = omega (arith, i .home-low); low = i .remainder-low; inside = omega (arith, i .home-high) }
 
 pub asc-in-shape :
     (sh : Shape) {es : List Entry} →

@@ -1,22 +1,52 @@
 -- Lock bits are aside: nothing that the rules say of a run or a table, nor what it shows, depends on them.
+-- `void-unlock`: a void word without its lock bit is 0. `locked-append`: lists joined are locked where one of them is.
 -- Assumes nothing.
 use Prim.Native.Nat.{ℕ, zero, suc, _+_, _-_}
-use mathlib.Core.Path.{_≡_, refl, ap, ap₂, _∙_}
-use mathlib.Core.Bool.{Bool, not, cond, _&&_, _||_}
-use mathlib.Core.List.{List, [], _∷_, map}
+use mathlib.Core.Path.{_≡_, refl, sym, ap, ap₂, _∙_}
+use mathlib.Core.Bool.{Bool, true, false, not, cond, _&&_, _||_, or-assoc}
+use mathlib.Core.List.{List, [], _∷_, _++_, map}
 use lib.ListN.{getD, take, drop, List·getD-map}
 use lib.Dec.{ltb, eqb}
+use borrow.Author.Tests.{eqb-true, not-true}
 use Rattle.rules.specs.declared.Shape.{Shape}
-use Rattle.rules.specs.Lists.{bitOf, count, all}
+use Rattle.rules.specs.Lists.{bitOf, count, all, any}
 use Rattle.rules.specs.Word.{Word, zeroWord, isVoid}
 use Rattle.rules.specs.Entry.{Entry, join}
 use Rattle.rules.specs.Shape.{remainders, rightGuard}
 use Rattle.rules.specs.Table.{at, occupiedPlaces, leftGap, rightGap, between, cluster, endsInChange, rising, soundRun}
 use Rattle.rules.specs.Table.{virginPlaces, front, due, deal, entriesBetween, clusterEntries, entryAt, entriesFrom}
 use Rattle.rules.specs.Table.{entries}
-use Rattle.rules.specs.Table.{list, soundAt, soundFrom, sound}
+use Rattle.rules.specs.Table.{list, soundAt, soundFrom, sound, locked}
 use Rattle.theory.specs.Run.{unlock}
-use Rattle.theory.specs.Dealt.{isChange, isVirgin, isLow}
+use Rattle.theory.specs.Dealt.{isChange, isVirgin, isLow, and-left, and-right, word-path}
+
+-- ---- words
+pub void-unlock : (g : Word) → isVoid g ≡ true → unlock g ≡ zeroWord
+unfolding isVoid
+void-unlock g void = word-path remainder occ virgin change refl
+  where
+    bits : (not (g .occupied) && (not (g .virgin) && not (g .change))) ≡ true
+    bits = and-right (eqb (g .remainder) 0) _ void
+
+    remainder : g .remainder ≡ 0
+    remainder = eqb-true (g .remainder) 0 (and-left (eqb (g .remainder) 0) _ void)
+
+    occ : g .occupied ≡ false
+    occ = not-true _ (and-left (not (g .occupied)) _ bits)
+
+    virgin : g .virgin ≡ false
+    virgin = not-true _ (and-left (not (g .virgin)) _ (and-right (not (g .occupied)) _ bits))
+
+    change : g .change ≡ false
+    change = not-true _ (and-right (not (g .virgin)) _ (and-right (not (g .occupied)) _ bits))
+
+pub locked-append : (u v : List Word) → locked (u ++ v) ≡ (locked u || locked v)
+unfolding locked any
+locked-append [] v = refl
+locked-append (w ∷ u) v =
+    ap (λ (b : Bool). w .lock || b) (locked-append u v) ∙ sym (or-assoc (w .lock) (locked u) (locked v))
+
+-- ---- runs
 
 pub count-unlock :
     (f : Word → Bool) → ((w : Word) → f (unlock w) ≡ f w) → (ws : List Word) → count f (map unlock ws) ≡ count f ws

@@ -1,16 +1,16 @@
 -- Put by moving words is put by the rule. `brought`: a fill at either end of a sound run, the moves and the mark leave
 -- the run enlarged, whatever the rest of the table is; phases 8 to 10 do so at the record's left and right.
--- `goal-inside`, `last-follows`: the goal is a place of that stretch, and with mark 1 not its first.
+-- `smaller-inside`, `last-follows`: the goal is a place of that stretch, and with mark 1 not its first.
 -- `add-moves`: so they add what put's definition adds, at either gap of an occupied home. `add-alone`: an unoccupied
 -- home gets one word.
 -- Assumes nothing.
-use Prim.Native.Nat.{ℕ, suc, _+_, _≤_, _<_}
+use Prim.Native.Nat.{ℕ, suc, _+_, _-_, _≤_, _<_}
 use mathlib.Core.Path.{_≡_, refl, sym, ap, ap₂, _∙_, subst}
 use mathlib.Core.Bool.{Bool, true, false, not, cond, _&&_, _||_, true≢false}
 use mathlib.Core.List.{List, [], _∷_, _++_}
 use native.Mathlib.Omega.{arith}
 use lib.ListN.{length, set, take, drop}
-use lib.Seq.{sets, split-at, length-take-le}
+use lib.Seq.{sets, split-at, length-take-le, length-slice}
 use borrow.Author.Tests.{eq-eqb}
 use Rattle.rules.specs.declared.Shape.{Shape}
 use Rattle.rules.specs.Lists.{bitOf, count, all, any}
@@ -18,21 +18,24 @@ use Rattle.rules.specs.Word.{Word, zeroWord, isVoid}
 use Rattle.rules.specs.Shape.{places, remainders}
 use Rattle.rules.specs.Entry.{Entry, sameHome, precedes}
 use Rattle.rules.specs.Table.{at, occupiedPlaces, leftGap, rightGap, between, cluster, soundRun}
-use Rattle.rules.specs.Table.{entriesBetween, clusterEntries, guardsVoid, locked}
+use Rattle.rules.specs.Table.{virginPlaces, entriesBetween, clusterEntries, guardsVoid, locked}
 use Rattle.rules.specs.Room.{place, roomFor}
 use Rattle.rules.specs.Lay.{holds, insert, hasHome, endsGroup, lay}
 use Rattle.rules.specs.Find.{around, soundAround, lockedAround}
 use Rattle.rules.specs.Put.{layRun, enlargedFrom, addAt}
-use Rattle.rules.specs.Phase.{aloneWord, smaller, markOf}
+use Rattle.rules.specs.Word.{aloneWord}
+use Rattle.rules.specs.Lay.{smaller, markOf}
+use Rattle.table_words.specs.Counts.{count-le}
 use Rattle.theory.specs.Run.{Run}
-use Rattle.theory.specs.Dealt.{isOccupied, and-left, and-right}
+use Rattle.theory.specs.Dealt.{isOccupied, and-left, and-right, deal-length}
 use Rattle.theory.specs.RunLaws.{sound-is-run}
 use Rattle.theory.specs.Gaps.{Side, HomePlace, gap}
 use Rattle.theory.specs.Gaps as gaps
 use Rattle.theory.specs.Side.{beside, begins, stands}
 use Rattle.theory.specs.Places.{void-free, occupied-at, gap-left, gap-entries}
 use Rattle.theory.specs.Pairs.{unlocked-same}
-use Rattle.theory.specs.Adding.{locked-append, or-parts}
+use Rattle.theory.specs.Locks.{locked-append}
+use Rattle.theory.specs.Adding.{or-parts}
 use Rattle.theory.specs.Putting.{spliced, add-from}
 use Rattle.theory.specs.Motion.{fillAt, finish}
 use Rattle.theory.specs.Region.{locks, length-locks}
@@ -138,6 +141,18 @@ brought side {sh} {ws} {l} {r} {e} h =
           before = omega (arith, begun, h .before, cut ws l r (omega arith) (h .inside) .inside);
           new = h .new;
         })
+
+-- no more keys are smaller than there are
+pub smaller-inside :
+    (ws : List Word) (l r : ℕ) (e : Entry) → r ≤ length ws → smaller e (entriesBetween ws l r) ≤ r - suc l
+unfolding smaller entriesBetween
+smaller-inside ws l r e le =
+    omega (
+      arith,
+      count-le (λ (f : Entry). precedes f e) (entriesBetween ws l r),
+      deal-length (virginPlaces (suc l) (between ws l r)) (between ws l r),
+      length-slice (suc l) r ws le,
+    )
 
 -- a key that is larger than all of its group follows one of them
 group-precedes :

@@ -4,13 +4,11 @@
 -- Assumes nothing.
 use Prim.Native.Nat.{ℕ, zero, suc, _+_, _*_, _≤_, _<_}
 use mathlib.Core.Path.{_≡_, refl, sym, ap, ap₂, _∙_, subst}
-use mathlib.Core.Bool.{Bool, true, false, not, _||_, _&&_, true≢false}
-use mathlib.Core.List.{List, [], _∷_, _++_, map}
+use mathlib.Core.Bool.{Bool, true, false, _||_, or-false, true≢false}
+use mathlib.Core.List.{List, [], _∷_, _++_, map, map-append}
 use native.Mathlib.Omega.{arith}
 use native.Mathlib.Nat.{le-refl, le-trans, le-of-eq}
 use lib.ListN.{length, replicate, length-append, length-replicate}
-use lib.Dec.{eqb}
-use borrow.Author.Tests.{eqb-true}
 use Rattle.rules.specs.Lists.{count, all, any}
 use Rattle.rules.specs.Word.{Word, zeroWord, isVoid}
 use Rattle.rules.specs.Entry.{Entry}
@@ -19,10 +17,10 @@ use Rattle.rules.specs.Lay.{hasHome, lay}
 use Rattle.rules.specs.Put.{layRun}
 use Rattle.theory.specs.Run.{Asc, none, unlock, Run}
 use Rattle.theory.specs.Dealt.{isOccupied, and-left, and-right, word-path}
+use Rattle.theory.specs.Locks.{void-unlock}
 use Rattle.theory.specs.Order.{taken}
 use Rattle.theory.specs.Insert.{asc-weaken, asc-append, asc-below}
-use Rattle.theory.specs.Joined.{map-append, has-home-append, has-home-left, has-home-right, lay-append}
-use Rattle.theory.specs.Joined.{lay-whole, or-none}
+use Rattle.theory.specs.Joined.{has-home-append, has-home-left, has-home-right, lay-append, lay-whole}
 use Rattle.theory.specs.RunLaws.{run-occupied}
 use Rattle.theory.specs.Places.{void-free}
 use Rattle.theory.specs.Seen.{Right, right-end, right-more, Table, table, right-asc}
@@ -42,29 +40,6 @@ pub data Tight (d : ℕ) : List Bool → List Entry → Type 0 where
   tight : {os : List Bool} {es : List Entry} → TightFrom d 1 os es → Tight d (false ∷ os) es
 
 -- ---- words
-pub void-unlock : (g : Word) → isVoid g ≡ true → unlock g ≡ zeroWord
-unfolding isVoid
-void-unlock g void = word-path remainder occ virgin change refl
-  where
-    unless : (b : Bool) → not b ≡ true → b ≡ false
-    unless true e = sym e
-    unless false e = refl
-
-    bits : (not (g .occupied) && (not (g .virgin) && not (g .change))) ≡ true
-    bits = and-right (eqb (g .remainder) 0) _ void
-
-    remainder : g .remainder ≡ 0
-    remainder = eqb-true (g .remainder) 0 (and-left (eqb (g .remainder) 0) _ void)
-
-    occ : g .occupied ≡ false
-    occ = unless _ (and-left (not (g .occupied)) _ bits)
-
-    virgin : g .virgin ≡ false
-    virgin = unless _ (and-left (not (g .virgin)) _ (and-right (not (g .occupied)) _ bits))
-
-    change : g .change ≡ false
-    change = unless _ (and-right (not (g .virgin)) _ (and-right (not (g .occupied)) _ bits))
-
 pub all-occupied : (run : List Word) → all isOccupied run ≡ true → occupiedPlaces run ≡ replicate (length run) true
 unfolding all occupiedPlaces
 all-occupied [] occ = refl
@@ -111,7 +86,7 @@ homes-here whole xs ys s down same x low high =
     same x low
     ∙ has-home-append xs ys x
     ∙ ap (λ (b : Bool). hasHome xs x || b) (has-home-left x s down (omega arith))
-    ∙ or-none (hasHome xs x)
+    ∙ or-false (hasHome xs x)
 
 homes-after :
     {d c b p : ℕ} (whole xs ys : List Entry) →

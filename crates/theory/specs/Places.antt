@@ -1,43 +1,32 @@
 -- A place in a run between two unoccupied words: its gaps, its cluster and its surroundings are those that one sees.
 -- And an unoccupied place: it is its own gap on both sides, with no cluster.
 -- Assumes nothing.
-use Prim.Native.Nat.{ℕ, zero, suc, _+_, _-_, _<_}
-use mathlib.Core.Path.{_≡_, refl, sym, ap, ap₂, _∙_}
-use mathlib.Core.Bool.{Bool, true, false, not, _&&_}
+use Prim.Native.Nat.{ℕ, suc, _+_, _-_, _<_}
+use mathlib.Core.Path.{_≡_, sym, ap, ap₂, _∙_}
+use mathlib.Core.Bool.{true, false}
 use mathlib.Core.List.{List, [], _∷_, _++_, append-assoc}
 use native.Mathlib.Omega.{arith}
 use native.Mathlib.Nat.{le-refl}
 use lib.ListN.{length, getD, take, drop, length-append, length-take, drop-of-length-le, List·getD-append}
 use lib.ListN.{List·getD-map, length-map}
-use lib.Dec.{eqb}
 use lib.Seq.{slice, getD-append-seam, getD-append-add, take-append-add, take-append-seam, drop-append-seam}
+use Rattle.rules.specs.declared.Shape.{Shape}
 use Rattle.rules.specs.Lists.{all}
 use Rattle.rules.specs.Word.{Word, zeroWord, isVoid}
 use Rattle.rules.specs.Table.{at, occupiedPlaces, leftGap, rightGap, between, cluster, virginPlaces, deal, entriesBetween}
-use Rattle.rules.specs.Table.{clusterEntries}
-use Rattle.theory.specs.Dealt.{isOccupied, and-left, and-right}
+use Rattle.rules.specs.Table.{clusterEntries, guardsVoid}
+use Rattle.table_words.specs.All.{all-at}
+use Rattle.theory.specs.Dealt.{isOccupied, and-left}
+use Rattle.theory.specs.Locks.{void-unlock}
 use Rattle.theory.specs.Gaps.{Taken, Free, gap-only, leftGap-is, rightGap-is}
 use Rattle.theory.specs.Gaps as gaps
 
 pub void-free : (w : Word) → isVoid w ≡ true → w .occupied ≡ false
-unfolding isVoid
-void-free w void =
-    go
-    (w .occupied)
-    (and-left
-    (not (w .occupied))
-    (not (w .virgin) && not (w .change))
-    (and-right (eqb (w .remainder) 0) (not (w .occupied) && (not (w .virgin) && not (w .change))) void))
-  where
-    go : (b : Bool) → not b ≡ true → b ≡ false
-    go true e = sym e
-    go false e = refl
+void-free w void = ap isOccupied (void-unlock w void)
 
-pub all-at : (f : Word → Bool) (ws : List Word) (i : ℕ) → all f ws ≡ true → i < length ws → f (at ws i) ≡ true
-unfolding all
-all-at f [] i h lt = absurd (omega arith)
-all-at f (w ∷ ws) zero h lt = and-left (f w) _ h
-all-at f (w ∷ ws) (suc i) h lt = all-at f ws i (and-right (f w) _ h) (omega arith)
+pub left-free : (sh : Shape) (ws : List Word) → guardsVoid sh ws ≡ true → at ws 0 .occupied ≡ false
+unfolding guardsVoid
+left-free sh ws void = void-free (at ws 0) (and-left (isVoid (at ws 0)) _ void)
 
 pub occupied-at : (ws : List Word) (p : ℕ) → getD (occupiedPlaces ws) p false ≡ at ws p .occupied
 unfolding occupiedPlaces
@@ -124,7 +113,7 @@ module _ (u : List Word) (g : Word) (run : List Word) (h : Word) (v : List Word)
         ∙ ap
         isOccupied
         (at-after u g (run ++ (h ∷ v)) (q - suc (length u)) ∙ at-left run (h ∷ v) (q - suc (length u)) (omega arith))
-        ∙ all-at isOccupied run (q - suc (length u)) taken (omega arith)
+        ∙ all-at isOccupied run (q - suc (length u)) zeroWord taken (omega arith)
       where
         place : suc (length u) + (q - suc (length u)) ≡ q
         place = omega arith

@@ -8,12 +8,14 @@ use native.Mathlib.Omega.{arith}
 use mathlib.Core.Path.{_≡_, refl, sym, ap, _∙_}
 use mathlib.Core.Bool.{Bool, true, false}
 use mathlib.Core.List.{List, [], _∷_, _++_, map}
-use lib.ListN.{length, length-map, getD, set, length-set, List·getD-map, List·getD-append}
+use lib.ListN.{length, length-map, getD, set, List·getD-map, List·getD-append}
 use lib.Seq.{lt-length-set, map-set-same, set-append-left, getD-append-add}
 use Rattle.rules.specs.Word.{Word, zeroWord, filledWith, withPayload, withChange, withVirgin}
 use Rattle.rules.specs.Table.{at, occupiedPlaces}
 use Rattle.rules.specs.Phase.{exchange, setChange, setVirgin, marked}
+use Rattle.table_words.specs.Layout.{change-length, exchange-length}
 use Rattle.theory.specs.Run.{unlock}
+use Rattle.theory.specs.Locks.{at-unlock}
 use Rattle.theory.specs.Motion.{fillAt, toward, moves, distance, finish, marked-both}
 use Rattle.theory.specs.Motion.{Heads, rightward, leftward, heads, toward-lt}
 use Rattle.theory.specs.Motion.{distance-toward, distance-some}
@@ -24,9 +26,6 @@ map-set : {A B : Type 0} (f : A → B) (l : List A) (i : ℕ) (x : A) → map f 
 map-set f [] i x = refl
 map-set f (y ∷ l) zero x = refl
 map-set {B = B} f (y ∷ l) (suc i) x = ap (λ (r : List B). f y ∷ r) (map-set f l i x)
-
-at-unlock : (ws : List Word) (p : ℕ) → at (map unlock ws) p ≡ unlock (at ws p)
-at-unlock ws p = List·getD-map unlock ws p zeroWord
 
 -- a change of one word that lock bits have no part in
 alter-unlock :
@@ -221,10 +220,6 @@ exchange-within pre mid post i j h k =
     (at-within pre mid post i h, at-within pre mid post j k, set-within pre mid post i v h)
     (set-within pre (set mid i v) post j w (lt-length-set mid i v k))
 
-length-exchange : (ws : List Word) (p q : ℕ) → length (exchange ws p q) ≡ length ws
-unfolding exchange
-length-exchange ws p q = simp length-set
-
 toward-within : (a hand goal : ℕ) → (hand ≡ goal → ⊥) → toward (a + hand) (a + goal) ≡ a + toward hand goal
 toward-within a hand goal apart =
     go (heads hand goal apart) (heads (a + hand) (a + goal) (λ e. apart (omega arith)))
@@ -249,15 +244,15 @@ moves-within (suc n) pre mid post hand goal d h k =
     rw (toward-within (length pre) hand goal apart, exchange-within pre mid post hand q h l)
     (moves-within n pre next post q goal
     (suc-inj (sym (distance-toward hand goal apart) ∙ d))
-    (rw (length-exchange mid hand q) l)
-    (rw (length-exchange mid hand q) k))
+    (rw (exchange-length mid hand q) l)
+    (rw (exchange-length mid hand q) k))
 
 length-moves : (n : ℕ) (ws : List Word) (hand goal : ℕ) → length (moves n ws hand goal) ≡ length ws
 unfolding moves
 length-moves zero ws hand goal = refl
 length-moves (suc n) ws hand goal =
     length-moves n (exchange ws hand (toward hand goal)) (toward hand goal) goal
-    ∙ length-exchange ws hand (toward hand goal)
+    ∙ exchange-length ws hand (toward hand goal)
 
 change-within :
     (pre mid post : List Word) (i : ℕ) (b : Bool) →
@@ -272,10 +267,6 @@ virgin-within :
     setVirgin (pre ++ (mid ++ post)) (length pre + i) ≡ pre ++ (setVirgin mid i ++ post)
 unfolding setVirgin
 virgin-within pre mid post i h = alter-within (withVirgin true) pre mid post i h
-
-length-change : (ws : List Word) (p : ℕ) (b : Bool) → length (setChange ws p b) ≡ length ws
-unfolding setChange
-length-change ws p b = length-set ws p (withChange b (at ws p))
 
 -- mark 1 writes at goal − 1, which must be in the region too
 marked-within :
@@ -295,12 +286,12 @@ marked-within pre mid post mark goal homeAt g h inner =
     homeAt
     (λ two.
     rw (change-within pre mid post goal true g)
-    (virgin-within pre (setChange mid goal true) post homeAt (rw (length-change mid goal true) h)))
+    (virgin-within pre (setChange mid goal true) post homeAt (rw (change-length mid goal true) h)))
     (λ one.
     let p : length pre + goal - 1 ≡ length pre + (goal - 1) = omega (arith, inner one) in
     let l : goal - 1 < length mid = omega arith in
     rw (p, change-within pre mid post goal true g)
-    (change-within pre (setChange mid goal true) post (goal - 1) false (rw (length-change mid goal true) l)))
+    (change-within pre (setChange mid goal true) post (goal - 1) false (rw (change-length mid goal true) l)))
     refl
 
 pub finish-within :

@@ -4,7 +4,7 @@
 use Prim.Native.Nat.{ℕ, zero, suc, _+_, _*_, _≤_, _<_}
 use mathlib.Core.Path.{_≡_, refl, sym, ap, ap₂, _∙_, subst}
 use mathlib.Core.Bool.{Bool, true, false, not, cond, _&&_, _||_}
-use mathlib.Core.List.{List, [], _∷_, map}
+use mathlib.Core.List.{List, [], _∷_, _++_, map}
 use native.Mathlib.Omega.{arith}
 use native.Mathlib.Nat.{add-zero, le-refl, le-trans}
 use lib.ListN.{length, getD, replicate}
@@ -61,6 +61,23 @@ virgin-count p (w ∷ ws) = go (w .virgin) (virgin-count (suc p) ws)
         length (cond b (p ∷ virginPlaces (suc p) ws) (virginPlaces (suc p) ws)) ≡ bitOf b + count isVirgin ws
     go true e = omega arith
     go false e = omega arith
+
+pub virgins-append :
+    (p : ℕ) (us vs : List Word) → virginPlaces p (us ++ vs) ≡ virginPlaces p us ++ virginPlaces (p + length us) vs
+unfolding virginPlaces
+virgins-append p [] vs = ap (λ (n : ℕ). virginPlaces n vs) (sym (add-zero p))
+virgins-append p (w ∷ us) vs = go (w .virgin) (rw (next p us) at (virgins-append (suc p) us vs))
+  where
+    next : (p : ℕ) (us : List Word) → suc p + length us ≡ p + suc (length us)
+    next p us = omega arith
+
+    go :
+        (b : Bool) →
+        virginPlaces (suc p) (us ++ vs) ≡ virginPlaces (suc p) us ++ virginPlaces (p + suc (length us)) vs →
+        cond b (p ∷ virginPlaces (suc p) (us ++ vs)) (virginPlaces (suc p) (us ++ vs))
+        ≡ cond b (p ∷ virginPlaces (suc p) us) (virginPlaces (suc p) us) ++ virginPlaces (p + suc (length us)) vs
+    go true e = ap (λ (hs : List ℕ). p ∷ hs) e
+    go false e = e
 
 -- a place of the run is among them where its word has virgin
 virgin-among :

@@ -6,7 +6,8 @@ use mathlib.Core.Path.{_≡_, refl, sym, ap, ap₂, _∙_, subst}
 use mathlib.Core.Bool.{Bool, true, false, not, cond, _&&_, and-assoc}
 use mathlib.Core.List.{List, [], _∷_, _++_, append-assoc}
 use native.Mathlib.Omega.{arith}
-use native.Mathlib.Nat.{add-zero}
+use native.Mathlib.Nat.{add-zero, add-suc}
+use borrow.Author.Tests.{not-true}
 use lib.ListN.{length, getD, drop, length-append, drop-of-length-le}
 use lib.Seq.{drop-cons, getD-append-add}
 use Rattle.rules.specs.declared.Shape.{Shape}
@@ -14,7 +15,7 @@ use Rattle.rules.specs.Lists.{count, all}
 use Rattle.rules.specs.Word.{Word, zeroWord, isVoid}
 use Rattle.rules.specs.Entry.{Entry}
 use Rattle.rules.specs.Shape.{homes, remainders, places, rightGuard}
-use Rattle.rules.specs.Table.{at, occupiedPlaces, cluster, endsInChange, rising, soundRun, virginPlaces, deal, entryAt}
+use Rattle.rules.specs.Table.{at, cluster, endsInChange, rising, soundRun, virginPlaces, deal, entryAt}
 use Rattle.rules.specs.Table.{entriesFrom, entries, soundAt, soundFrom, guardsVoid, sound}
 use Rattle.theory.specs.Run.{Run}
 use Rattle.theory.specs.Dealt.{isOccupied, and-left, and-right, and-both}
@@ -365,10 +366,6 @@ sound-is-table sh (g ∷ v) s size snd =
     (ap (λ (o : Bool). cond o (entryAt (g ∷ v) 0 ∷ entriesFrom (g ∷ v) 1 v) (entriesFrom (g ∷ v) 1 v)) (sym free))
     (table void (right-of sh (g ∷ v) [] g 1 s (spans v closed) free free refl refl rest))
   where
-    unless : (b : Bool) → not b ≡ true → b ≡ false
-    unless true e = sym e
-    unless false e = refl
-
     guards : (not (g .occupied) && not (at (g ∷ v) (rightGuard sh) .occupied)) ≡ true
     guards = and-left _ (soundFrom sh (g ∷ v) 0 (g ∷ v)) snd
 
@@ -376,7 +373,7 @@ sound-is-table sh (g ∷ v) s size snd =
     every = and-right (not (g .occupied) && not (at (g ∷ v) (rightGuard sh) .occupied)) _ snd
 
     free : g .occupied ≡ false
-    free = unless _ (and-left (not (g .occupied)) _ guards)
+    free = not-true _ (and-left (not (g .occupied)) _ guards)
 
     void : isVoid g ≡ true
     void =
@@ -393,7 +390,7 @@ sound-is-table sh (g ∷ v) s size snd =
     closed : Closes v
     closed =
         tail v
-        (closes-at (g ∷ v) (rightGuard sh) (omega arith) (unless _ (and-right (not (g .occupied)) _ guards)))
+        (closes-at (g ∷ v) (rightGuard sh) (omega arith) (not-true _ (and-right (not (g .occupied)) _ guards)))
 
 -- soundness and entries from a place on
 abbrev SoundShows : Shape → List Word → ℕ → List Word → List Entry → Type 0
@@ -521,12 +518,9 @@ last-void :
 last-void g void (right-end e f) = ap (λ (t : List Word). isVoid (at (g ∷ t) (length t))) e ∙ void
 last-void g void (right-more run h v xs ys r hollow rest e f) =
     ap (λ (t : List Word). isVoid (at (g ∷ t) (length t))) e
-    ∙ ap (λ (n : ℕ). isVoid (at (g ∷ (run ++ (h ∷ v))) n)) (length-append run (h ∷ v) ∙ plus (length run) (length v))
+    ∙ ap (λ (n : ℕ). isVoid (at (g ∷ (run ++ (h ∷ v))) n)) (length-append run (h ∷ v) ∙ add-suc (length run) (length v))
     ∙ ap isVoid (getD-append-add run (h ∷ v) (length v) zeroWord)
     ∙ last-void h hollow rest
-  where
-    plus : (m n : ℕ) → m + suc n ≡ suc (m + n)
-    plus m n = omega arith
 
 pub table-guards :
     (sh : Shape) {ws : List Word} {es : List Entry} →

@@ -21,14 +21,14 @@ use Rattle.rules.specs.Record.{taskAt}
 use Rattle.table_words.specs.Split.{split-in-shape}
 use Rattle.theory.specs.Run.{unlock}
 use Rattle.theory.specs.Dealt.{isOccupied}
-use Rattle.theory.specs.Locks.{between-unlock, sound-run-unlock, virgin-unlock, deal-unlock}
+use Rattle.theory.specs.Locks.{at-unlock, between-unlock, sound-run-unlock, virgin-unlock, deal-unlock}
 use Rattle.theory.specs.Gaps as gaps
 use Rattle.theory.specs.Gaps.{HomePlace, leftGap-is, rightGap-is, gap-only}
 use Rattle.theory.specs.Places.{occupied-at}
 use Rattle.theory.specs.Cut.{between-occupied}
 use Rattle.theory.specs.Finding.{Surroundings, surroundings}
 use Rattle.theory.specs.Moving.{sound-around}
-use Rattle.together.specs.Frames.{at-unlocked, occupied-same}
+use Rattle.together.specs.Frames.{occupied-same}
 use Rattle.together.specs.Invariant.{Looked, Inv}
 use Rattle.together.specs.Stable.{between-same}
 use Rattle.together.specs.Facts.{between-taken, words-size, guards-free, reserved-laid}
@@ -148,4 +148,4 @@ around {sh} {ws} {ts} {laid} {shown} low inv i lt from-7 to-8 k x left-held righ
         (t .right)
         (omega (arith, length-map ws unlock, words-size low inv, x .inside))
         (length-map ws unlock ∙ words-size low inv ∙ sym (inv .plain .size))
-        (λ q a b. at-unlocked ws q ∙ reserved-laid low inv i lt from-7 to-8 q (omega arith, omega arith))
+        (λ q a b. at-unlock ws q ∙ reserved-laid low inv i lt from-7 to-8 q (omega arith, omega arith))

@@ -25,10 +25,13 @@ use Rattle.rules.specs.Put.{addAt, enlargedFrom, Outcome, keeps, putIn, wordsAf
 use Rattle.rules.specs.Record.{homePlaceOf, toPhase, withLeft, withAnswer}
 use Rattle.rules.specs.Record.{taskAt}
 use Rattle.rules.specs.Phase as phase
-use Rattle.rules.specs.Phase.{to, unsound, aloneWord, smaller, markOf, movesOn}
+use Rattle.rules.specs.Phase.{to, unsound, movesOn}
+use Rattle.rules.specs.Word.{aloneWord}
+use Rattle.rules.specs.Lay.{smaller, markOf}
 use Rattle.table_words.specs.Split.{split-in-shape}
 use Rattle.theory.specs.Run.{unlock}
 use Rattle.theory.specs.Dealt.{or-left, or-right}
+use Rattle.theory.specs.Locks.{at-unlock}
 use Rattle.theory.specs.Insert.{same-eq, same-refl, holds-insert}
 use Rattle.theory.specs.Gaps as gaps
 use Rattle.theory.specs.Gaps.{Side, HomePlace, other, leftGap-is, rightGap-is, gap-only, room-left, chosen-only}
@@ -41,7 +44,7 @@ use Rattle.theory.specs.Finding.{Surroundings, surroundings, around-free}
 use Rattle.theory.specs.Putting.{Puts, found, inserted, overflow, put-table, table-guarded}
 use Rattle.theory.specs.Moving.{Addable, add-end, begins-from, room-alone, add-alone}
 use Rattle.theory.specs.Building.{State, after-put, added-state, place≢full}
-use Rattle.together.specs.Frames.{Within, at-set, at-other, at-unlocked, finish-before, finish-after, locks-at}
+use Rattle.together.specs.Frames.{Within, at-set, at-other, finish-before, finish-after, locks-at}
 use Rattle.together.specs.Frames.{occupied-same}
 use Rattle.together.specs.Invariant.{Occupied, Looked, Fills, MayFill, Moving, Owns, by-left, by-right, Reserves}
 use Rattle.together.specs.Invariant.{Apart, Unfinished}
@@ -94,7 +97,7 @@ pub plain-unlocked :
     {sh : Shape} {laid : List Word} {shown : List Entry} (q : ℕ) → State sh laid shown →
     unlock (at laid q) ≡ at laid q
 plain-unlocked {laid = laid} q s =
-    sym (at-unlocked laid q) ∙ ap (λ (vs : List Word). at vs q) (unlocked-same laid (s .free))
+    sym (at-unlock laid q) ∙ ap (λ (vs : List Word). at vs q) (unlocked-same laid (s .free))
 
 -- another key's entry is as much held as before
 pub held-other : (e f : Entry) (es : List Entry) → (e .homePlace ≢ f .homePlace) → holds f (insert e es) ≡ holds f es

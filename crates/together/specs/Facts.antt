@@ -19,8 +19,10 @@ use Rattle.rules.specs.Table.{at, occupiedPlaces, guardsVoid}
 use Rattle.rules.specs.Lay.{lay}
 use Rattle.rules.specs.Record.{homePlaceOf, within, implies, busy, atRest, fitsHand, fitsBusy, fits}
 use Rattle.rules.specs.Record.{taskAt}
+use Rattle.rules.specs.Record.{taskAt}
+use Rattle.table_words.specs.Tests.{inside, between}
 use Rattle.theory.specs.Run.{unlock}
-use Rattle.theory.specs.Dealt.{and-both, or-left, or-right, and-left, and-right}
+use Rattle.theory.specs.Dealt.{and-both, or-left, or-right}
 use Rattle.theory.specs.Gaps as gaps
 use Rattle.theory.specs.Gaps.{Side, Guarded, other}
 use Rattle.theory.specs.Cut.{end}
@@ -220,9 +222,6 @@ implied : (a b : Bool) → (a ≡ true → b ≡ true) → implies a b ≡ true
 implied true b h = h refl
 implied false b h = refl
 
-in-range : (low high x : ℕ) → low ≤ x → x ≤ high → within low high x ≡ true
-in-range low high x a b = and-both _ _ (le-leb low x a) (le-leb x high b)
-
 -- what fitting asks, as facts
 pub record FitsHand (sh : Shape) (t : Task) : Type 0 where
   pub hand-first : 1 ≤ t .hand
@@ -254,10 +253,10 @@ fits-hand sh t f =
     (and-both
     _
     _
-    (in-range 1 (homes sh) (t .hand) (f .hand-first) (f .hand-last))
-    (in-range 1 (homes sh) (t .goal) (f .goal-first) (f .goal-last)))
-    (in-range (t .left) (t .right) (t .hand) (f .hand-left) (f .hand-right)))
-    (in-range (t .left) (t .right) (t .goal) (f .goal-left) (f .goal-right)))
+    (inside 1 (homes sh) (t .hand) (f .hand-first) (f .hand-last))
+    (inside 1 (homes sh) (t .goal) (f .goal-first) (f .goal-last)))
+    (inside (t .left) (t .right) (t .hand) (f .hand-left) (f .hand-right)))
+    (inside (t .left) (t .right) (t .goal) (f .goal-left) (f .goal-right)))
     (le-leb (t .mark) 2 (f .marks)))
     (implied
     (eqb (t .mark) 1)
@@ -286,7 +285,7 @@ fits-busy sh t f =
     (and-both
     _
     _
-    (in-range 1 12 (t .phase) (f .first) (f .last))
+    (inside 1 12 (t .phase) (f .first) (f .last))
     (and-both
     _
     _
@@ -310,7 +309,7 @@ fits-busy sh t f =
     (implied
     (leb 3 (t .phase))
     _
-    (λ h. let r = f .right (leb-true 3 (t .phase) h) in in-range _ _ (t .right) (r .0) (r .1))))
+    (λ h. let r = f .right (leb-true 3 (t .phase) h) in inside _ _ (t .right) (r .0) (r .1))))
     (implied
     (within 8 10 (t .phase))
     _
@@ -318,9 +317,7 @@ fits-busy sh t f =
     fits-hand
     sh
     t
-    (f .hand
-    (leb-true 8 (t .phase) (and-left (leb 8 (t .phase)) _ h))
-    (leb-true (t .phase) 10 (and-right (leb 8 (t .phase)) _ h))))))
+    (let b = between 8 10 (t .phase) h in f .hand (b .least) (b .most)))))
     (implied (eqb (t .phase) 8) _ (λ h. either (f .at-8 (eqb-true (t .phase) 8 h)))))
     (implied (eqb (t .phase) 9) _ (λ h. ap not (ne-eqb _ _ (f .at-9 (eqb-true (t .phase) 9 h))))))
     (implied (eqb (t .phase) 10) _ (λ h. eq-eqb _ _ (f .at-10 (eqb-true (t .phase) 10 h))))))

@@ -4,7 +4,7 @@
 use Prim.Native.Nat.{ℕ, zero, suc, _+_, _*_, _≤_, _<_}
 use mathlib.Core.Path.{_≡_, refl, sym, ap, ap₂, _∙_, subst}
 use mathlib.Core.Logic.{_⊎_, _≢_, inl, inr}
-use mathlib.Core.Bool.{Bool, true, false, cond, _&&_, _||_, true≢false, false≢true}
+use mathlib.Core.Bool.{Bool, true, false, cond, _&&_, _||_, or-false, true≢false, false≢true}
 use mathlib.Core.List.{List, [], _∷_, _++_}
 use native.Mathlib.Omega.{arith}
 use native.Mathlib.Nat.{zero-add}
@@ -29,11 +29,13 @@ use Rattle.rules.specs.Record.{noTask, taskAt, goodTask}
 use Rattle.rules.specs.Step.{Lent, refused, stepOf, lentAfter, step}
 use Rattle.table_words.specs.Range.{good-table, remainders-high}
 use Rattle.table_words.specs.Layout.{bytes-length, words-of-bytes, remainders-small}
+use Rattle.table_words.specs.Tests.{eqb-sym}
+use Rattle.table_words.specs.Busy.{rest-phase, works-phase}
 use Rattle.theory.specs.Every as every
 use Rattle.theory.specs.Every.{All}
-use Rattle.theory.specs.Insert.{same-eq, holds-insert}
+use Rattle.theory.specs.Insert.{same-eq, holds-insert, or-swap}
+use Rattle.theory.specs.Adding.{or-parts}
 use Rattle.theory.specs.Dealt.{and-left, and-right, and-both, or-left, or-right}
-use Rattle.theory.specs.Joined.{or-none}
 use Rattle.theory.specs.Keys.{listed}
 use Rattle.theory.specs.Gaps.{AllTaken, full-room}
 use Rattle.theory.specs.Putting.{table-guarded}
@@ -56,7 +58,7 @@ use Rattle.together.specs.Commit.{held-still, plain-unlocked}
 use Rattle.together.specs.Machine.{Action, gives, steps, Said, World, begin, afterGive, afterStep, act, course}
 use Rattle.together.specs.Machine.{timesGiven, timesSaid, timesInserted}
 use Rattle.together.specs.History.{timesLoaded, timesBusy, heard, tally-step, answers-step, give-tally}
-use Rattle.together.specs.History.{quiet-counts, rest-phase}
+use Rattle.together.specs.History.{quiet-counts}
 
 -- an answer: full, or found or inserted with its key shown
 pub data Means (sh : Shape) (shown : List Entry) (s : Said) : Type 0 where
@@ -170,7 +172,7 @@ fair-begin {sh} {bytes} ts t few rest =
       inv = inv-begin ts (state-of t) (remainders-small bytes) rest;
       put = [];
       chain = refl;
-      shown-is = λ x. sym (or-none (holds x (entries (wordsOf bytes))));
+      shown-is = λ x. sym (or-false (holds x (entries (wordsOf bytes))));
       put-new = λ x h. absurd (false≢true h);
       put-given = λ x h. absurd (false≢true h);
       tally = λ key. omega (arith, quiet-counts key ts rest .0);
@@ -316,13 +318,6 @@ fair-given {sh} {start} {w} i key f lt small idle =
         (subst (λ (t : Task). t .phase ≤ 12) same b)
         (sym (ap (λ (t : Task). t .answer) same) ∙ full)
 
-    eqb-sym : (a b : ℕ) → eqb a b ≡ eqb b a
-    eqb-sym a b = go (eqb b a) refl
-      where
-        go : (c : Bool) → eqb b a ≡ c → eqb a b ≡ c
-        go true e = eq-eqb a b (sym (eqb-true b a e))
-        go false e = ne-eqb a b (λ same. eqb-false b a e (sym same))
-
     or-else :
         (j : ℕ) →
         j < length (set (w .tasks) i (given key)) →
@@ -404,13 +399,7 @@ holds-last : (x e : Entry) (es : List Entry) → holds x (es ++ (e ∷ [])) ≡ 
 unfolding holds any
 holds-last x e [] = refl
 holds-last x e (f ∷ es) =
-    ap (λ (b : Bool). sameEntry x f || b) (holds-last x e es) ∙ swap (sameEntry x f) (sameEntry x e) (holds x es)
-  where
-    swap : (a b c : Bool) → (a || (b || c)) ≡ (b || (a || c))
-    swap true true c = refl
-    swap true false c = refl
-    swap false true c = refl
-    swap false false c = refl
+    ap (λ (b : Bool). sameEntry x f || b) (holds-last x e es) ∙ or-swap (sameEntry x f) (sameEntry x e) (holds x es)
 
 -- what a step leaves of the keys put and of the tally
 record After (sh : Shape) (start : List ℕ) (w : World) (i : ℕ) (t′ : Task) (shown : List Entry) (laid′ : List Word)
@@ -469,7 +458,7 @@ module _ {sh : Shape} {start : List ℕ} {w : World} (f : Fair sh start w) (i : 
           shown-is = λ x.
               holds-insert x e (f .shown)
               ∙ ap (λ (b : Bool). sameEntry x e || b) (f .shown-is x)
-              ∙ swap (sameEntry x e) (holds x (entries (wordsOf start))) (holds x (f .put))
+              ∙ or-swap (sameEntry x e) (holds x (entries (wordsOf start))) (holds x (f .put))
               ∙ ap (λ (b : Bool). holds x (entries (wordsOf start)) || b) (sym (holds-last x e (f .put)));
           put-new = λ x h. fresh x (sameEntry x e) refl (sym (holds-last x e (f .put)) ∙ h);
           put-given = λ x h. known x (sameEntry x e) refl (sym (holds-last x e (f .put)) ∙ h);
@@ -484,18 +473,8 @@ module _ {sh : Shape} {start : List ℕ} {w : World} (f : Fair sh start w) (i : 
           grows = λ x h. held-still e x (f .shown) h;
         }
       where
-        swap : (a b c : Bool) → (a || (b || c)) ≡ (b || (a || c))
-        swap true true c = refl
-        swap true false c = refl
-        swap false true c = refl
-        swap false false c = refl
-
         start-new : holds e (entries (wordsOf start)) ≡ false
-        start-new = first-false (holds e (entries (wordsOf start))) (holds e (f .put)) (sym (f .shown-is e) ∙ new)
-          where
-            first-false : (a b : Bool) → (a || b) ≡ false → a ≡ false
-            first-false true b h = h
-            first-false false b h = refl
+        start-new = or-parts (holds e (entries (wordsOf start))) (holds e (f .put)) (sym (f .shown-is e) ∙ new) .0
 
         fresh :
             (x : Entry) (b : Bool) → sameEntry x e ≡ b → (b || holds x (f .put)) ≡ true →
@@ -794,21 +773,6 @@ data StepCase {sh : Shape} {start : List ℕ} {w : World} (f : Fair sh start w) 
       ≡ leaves (says 0) (record { table = bytesOf (k .words); tasks = set (w .tasks) i (k .next) }) →
       StepCase f i
 
--- a phase that is neither 0 nor 13, and at most 13, is a busy one
-between : (t : Task) → t .phase ≤ 13 → atRest t ≡ false → (1 ≤ t .phase) × (t .phase ≤ 12)
-unfolding atRest
-between t le h = go (eqb (t .phase) 0) (eqb (t .phase) 13) refl refl h
-  where
-    go :
-        (a b : Bool) → eqb (t .phase) 0 ≡ a → eqb (t .phase) 13 ≡ b → (a || b) ≡ false →
-        (1 ≤ t .phase) × (t .phase ≤ 12)
-    go true b x y k = absurd (true≢false k)
-    go false true x y k = absurd (true≢false k)
-    go false false x y k =
-        let n = eqb-false (t .phase) 0 x in
-        let o = eqb-false (t .phase) 13 y in
-        (omega (arith, n), omega (arith, o, le))
-
 rest-refused :
     {sh : Shape} {start : List ℕ} {w : World} (f : Fair sh start w) (i : ℕ) →
     i < length (w .tasks) →
@@ -848,7 +812,7 @@ step-case {sh} {start} {w} f i = go (ltb i (length (w .tasks))) refl
     here e false rest =
         let lt = ltb-true i (length (w .tasks)) e in
         let (first, last) =
-        between (taskAt (w .tasks) i) (stage-last (taskAt (w .tasks) i) (f .inv .stage i lt)) rest in
+        works-phase (taskAt (w .tasks) i) (stage-last (taskAt (w .tasks) i) (f .inv .stage i lt)) rest in
         let k = walk low (f .inv) i lt first last in
         walked lt first last k (passed e ∙ ap (lentAfter (w .table) (w .tasks) i) (k .step))
 

@@ -20,6 +20,7 @@ use Rattle.rules.specs.Record.{homePlaceOf, toPhase, withHand, withAnswer}
 use Rattle.rules.specs.Record.{taskAt}
 use Rattle.rules.specs.Phase as phase
 use Rattle.rules.specs.Phase.{to, neighbour, exchange, movesOn, marked}
+use Rattle.table_words.specs.Layout.{exchange-length}
 use Rattle.theory.specs.Run.{unlock}
 use Rattle.theory.specs.Gaps as gaps
 use Rattle.theory.specs.Gaps.{Side, other}
@@ -105,14 +106,8 @@ module _ (ws : List Word) (p q : ℕ) (lp : p < length ws) (lq : q < length ws) 
       let e = exchanged ws p q x lp lq in
       e .word ∙ ap (λ (y : ℕ). withPayload (at ws y) (at ws x)) (e .elsewhere a b)
 
-  exchange-size : length (exchange ws p q) ≡ length ws
-  unfolding exchange
-  exchange-size =
-      length-set (set ws p (withPayload (at ws q) (at ws p))) q (withPayload (at ws p) (at ws q))
-      ∙ length-set ws p (withPayload (at ws q) (at ws p))
-
   exchange-places : occupiedPlaces (exchange ws p q) ≡ occupiedPlaces ws
-  exchange-places = occupied-by (exchange ws p q) ws exchange-size exchange-taken
+  exchange-places = occupied-by (exchange ws p q) ws (exchange-length ws p q) exchange-taken
 
 -- ---- a task in phase 9 or 10
 -- the places of its stretch but the unfilled end are occupied
@@ -310,7 +305,7 @@ module _ {sh : Shape} {ws : List Word} {ts : List Task} {laid : List Word} {show
                   (omega arith)
                   (omega arith)
                   x
-                  (exchange-size ws (t .hand) to-place hand-inside next-inside)
+                  (exchange-length ws (t .hand) to-place)
                   (exchange-locks ws (t .hand) to-place hand-inside next-inside)
                   (exchange-places ws (t .hand) to-place hand-inside next-inside)
                   on-outside

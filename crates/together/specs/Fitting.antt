@@ -1,29 +1,28 @@
 -- Each record that the invariant allows fits (01, "A record fits if .."), so no step is refused for it: `stage-fits`.
 -- Assumes nothing.
 use Prim.Native.Nat.{ℕ, suc, _+_, _-_, _≤_, _<_}
-use mathlib.Core.Path.{_≡_, refl, sym, ap, _∙_}
+use mathlib.Core.Path.{_≡_, refl, sym, _∙_}
 use mathlib.Core.Logic.{_⊎_, _≢_, inl, inr}
 use mathlib.Core.Bool.{Bool, true, false, not, cond, _||_}
-use mathlib.Core.List.{List, [], _∷_}
+use mathlib.Core.List.{List}
 use native.Mathlib.Omega.{arith}
 use lib.ListN.{length}
-use lib.Seq.{length-slice}
 use borrow.Author.Tests.{eq-eqb}
 use lib.Dec.{eqb}
 use Rattle.rules.specs.declared.Shape.{Shape}
 use Rattle.rules.specs.declared.Task.{Task}
-use Rattle.rules.specs.Lists.{bitOf, count, all, any}
+use Rattle.rules.specs.Lists.{all, any}
 use Rattle.rules.specs.Word.{Word}
 use Rattle.rules.specs.Shape.{keys, places, rightGuard}
 use Rattle.rules.specs.Entry.{Entry, split, sameHome, precedes}
-use Rattle.rules.specs.Table.{between, due, deal, virginPlaces, entriesBetween}
+use Rattle.rules.specs.Table.{entriesBetween}
 use Rattle.rules.specs.Record.{homePlaceOf, atRest, fits}
-use Rattle.rules.specs.Phase.{smaller, markOf}
+use Rattle.rules.specs.Lay.{smaller, markOf}
 use Rattle.theory.specs.Dealt.{or-left, or-right}
 use Rattle.theory.specs.Gaps as gaps
 use Rattle.theory.specs.Gaps.{Side, HomePlace}
 use Rattle.theory.specs.Cut.{end, from, upTo}
-use Rattle.theory.specs.Moving.{last-follows}
+use Rattle.theory.specs.Moving.{smaller-inside, last-follows}
 use Rattle.together.specs.Invariant.{Looked, Fills, MayFill, Moving}
 use Rattle.together.specs.Invariant.{InPhase, at-rest, at-home, looks-left, looks-right, owns-left, owns-both}
 use Rattle.together.specs.Invariant.{has-read}
@@ -31,31 +30,6 @@ use Rattle.together.specs.Invariant.{moving, marking, frees-left, frees-
 use Rattle.together.specs.Facts.{FitsHand, FitsBusy, fits-busy}
 
 -- ---- the goal that the read step names
-count-le : {A : Type 0} (f : A → Bool) (xs : List A) → count f xs ≤ length xs
-unfolding count
-count-le f [] = omega arith
-count-le f (x ∷ xs) = go (f x) (count-le f xs)
-  where
-    go : (b : Bool) → count f xs ≤ length xs → bitOf b + count f xs ≤ suc (length xs)
-    go true le = omega arith
-    go false le = omega arith
-
-deal-length : (hs : List ℕ) (ws : List Word) → length (deal hs ws) ≡ length ws
-unfolding deal
-deal-length hs [] = refl
-deal-length hs (w ∷ ws) = ap suc (deal-length (due (w .change) hs) ws)
-
-pub smaller-inside :
-    (ws : List Word) (l r : ℕ) (e : Entry) → r ≤ length ws → smaller e (entriesBetween ws l r) ≤ r - suc l
-unfolding smaller entriesBetween
-smaller-inside ws l r e le =
-    omega (
-      arith,
-      count-le (λ (f : Entry). precedes f e) (deal (virginPlaces (suc l) (between ws l r)) (between ws l r)),
-      deal-length (virginPlaces (suc l) (between ws l r)) (between ws l r),
-      length-slice (suc l) r ws le,
-    )
-
 -- a goal that far from the first place of the stretch lies in it
 pub goal-below : (side : Side) (l r n : ℕ) → l < r → n ≤ r - suc l → from side l + n < upTo side r
 goal-below gaps.left l r n lt le = omega arith

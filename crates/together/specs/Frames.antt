@@ -5,14 +5,13 @@ use Prim.Native.Nat.{ℕ, suc, _+_, _-_, _≤_, _<_}
 use mathlib.Core.Path.{_≡_, sym, ap, _∙_}
 use mathlib.Core.Logic.{_≢_}
 use mathlib.Core.Bool.{Bool, false}
-use mathlib.Core.List.{List, _++_, append-assoc, map}
+use mathlib.Core.List.{List, _++_, append-assoc}
 use native.Mathlib.Omega.{arith}
 use lib.ListN.{length, getD, take, drop, set, length-append, take-append-drop, List·getD-append, List·getD-map}
 use lib.Seq.{slice, length-slice, length-take-le, take-take, getD-append-add, getD-take, getD-drop, getD-set-same}
 use lib.Seq.{getD-set-other, ext-getD}
 use Rattle.rules.specs.Word.{Word, zeroWord}
 use Rattle.rules.specs.Table.{at, occupiedPlaces}
-use Rattle.theory.specs.Run.{unlock}
 use Rattle.theory.specs.Places.{occupied-at, occupied-length}
 use Rattle.theory.specs.Motion.{finish}
 use Rattle.theory.specs.Region.{locks, length-locks, finish-locks, finish-within}
@@ -23,10 +22,6 @@ at-set ws p w lt = getD-set-same ws p w zeroWord lt
 
 pub at-other : (ws : List Word) (p q : ℕ) (w : Word) → q ≢ p → at (set ws p w) q ≡ at ws q
 at-other ws p q w n = getD-set-other ws p q w zeroWord n
-
--- words that agree at every place are the same
-pub same-words : (ws vs : List Word) → length ws ≡ length vs → ((p : ℕ) → at ws p ≡ at vs p) → ws ≡ vs
-same-words ws vs size alike = ext-getD zeroWord ws vs size (λ p lt. alike p)
 
 -- a stretch from place a to place b, both included
 abbrev pub Within : ℕ → ℕ → ℕ → Type 0
@@ -166,9 +161,6 @@ finish-agree ws vs a b le lt size hand goal mark homeAt hand-in goal-in home-in 
     ∙ sym (finish-inside vs a b le (omega arith) hand goal mark homeAt hand-in goal-in home-in closes p near)
 
 -- ---- locks and occupied places
-pub at-unlocked : (ws : List Word) (p : ℕ) → at (map unlock ws) p ≡ unlock (at ws p)
-at-unlocked ws p = List·getD-map unlock ws p zeroWord
-
 pub locks-at : (ws vs : List Word) (p : ℕ) → locks ws ≡ locks vs → at ws p .lock ≡ at vs p .lock
 locks-at ws vs p e =
     sym (List·getD-map (λ (w : Word). w .lock) ws p zeroWord)

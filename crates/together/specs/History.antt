@@ -4,7 +4,7 @@
 use Prim.Native.Nat.{ℕ, zero, suc, _+_, _≤_, _<_}
 use mathlib.Core.Path.{_≡_, refl, sym, ap, ap₂, _∙_}
 use mathlib.Core.Logic.{_⊎_, _≢_, inl, inr}
-use mathlib.Core.Bool.{Bool, true, false, cond, _&&_, _||_, false≢true}
+use mathlib.Core.Bool.{Bool, true, false, cond, _&&_, _||_, and-true, and-false}
 use mathlib.Core.List.{List, [], _∷_}
 use native.Mathlib.Omega.{arith}
 use lib.ListN.{length, getD, set}
@@ -14,6 +14,8 @@ use Rattle.rules.specs.declared.Task.{Task}
 use Rattle.rules.specs.Lists.{bitOf, count, all}
 use Rattle.rules.specs.Record.{within, busy, atRest}
 use Rattle.rules.specs.Record.{noTask, taskAt}
+use Rattle.rules.specs.Record.{noTask, taskAt}
+use Rattle.table_words.specs.Busy.{resting, is-busy, done-or-beyond, rest-phase, rest-not-busy}
 use Rattle.theory.specs.Dealt.{and-left, and-right}
 use Rattle.together.specs.Machine.{Said, timesSaid, timesInserted}
 use Rattle.together.specs.Walk.{weight}
@@ -49,37 +51,6 @@ load-done t e = ap (λ (n : ℕ). bitOf (within 9 10 n || (within 11 13 n && eqb
 
 unloaded-done : (t : Task) → t .phase ≡ 13 → loaded t ≡ false
 unloaded-done t e = ap (λ (n : ℕ). within 9 10 n || (within 11 12 n && eqb (t .answer) 2)) e
-
-idle-done : (t : Task) → t .phase ≡ 13 → busy t ≡ false
-unfolding busy
-idle-done t e = ap (within 1 12) e
-
-busy-is : (t : Task) → 1 ≤ t .phase → t .phase ≤ 12 → busy t ≡ true
-unfolding busy
-busy-is t a b = ap₂ _&&_ (le-leb 1 (t .phase) a) (le-leb (t .phase) 12 b)
-
-idle-zero : (t : Task) → t .phase ≡ 0 → busy t ≡ false
-unfolding busy
-idle-zero t e = ap (within 1 12) e
-
-and-true : (b : Bool) → (b && true) ≡ b
-and-true true = refl
-and-true false = refl
-
-and-false : (b : Bool) → (b && false) ≡ false
-and-false true = refl
-and-false false = refl
-
-pub rest-phase : (t : Task) → atRest t ≡ true → (t .phase ≡ 0) ⊎ (t .phase ≡ 13)
-unfolding atRest
-rest-phase t h = go (eqb (t .phase) 0) (eqb (t .phase) 13) refl refl h
-  where
-    go :
-        (a b : Bool) → eqb (t .phase) 0 ≡ a → eqb (t .phase) 13 ≡ b → (a || b) ≡ true →
-        (t .phase ≡ 0) ⊎ (t .phase ≡ 13)
-    go true b x y k = inl (eqb-true (t .phase) 0 x)
-    go false true x y k = inr (eqb-true (t .phase) 13 y)
-    go false false x y k = absurd (false≢true k)
 
 -- a Boolean guard on a bit
 pub guard-bit : (b c : Bool) → bitOf (b && c) ≡ cond b (bitOf c) 0
@@ -192,7 +163,7 @@ answers-step key ts i t′ ss lt first before next-first after same = go (eqb (t
 
     old : bitOf (eqb (t .key) key && busy t) ≡ bitOf (eqb (t .key) key)
     old =
-        ap (λ (b : Bool). bitOf (eqb (t .key) key && b)) (busy-is t first before)
+        ap (λ (b : Bool). bitOf (eqb (t .key) key && b)) (is-busy t (λ z. omega arith) (omega arith))
         ∙ ap bitOf (and-true (eqb (t .key) key))
 
     go :
@@ -203,13 +174,13 @@ answers-step key ts i t′ ss lt first before next-first after same = go (eqb (t
         ≡ count (λ (s : Said). eqb (s .key) key) ss + count (λ (u : Task). eqb (u .key) key && busy u) ts
     go true e =
         let none : bitOf (eqb (t′ .key) key && busy t′) ≡ 0 =
-        ap (λ (b : Bool). bitOf (eqb (t′ .key) key && b)) (idle-done t′ (eqb-true (t′ .phase) 13 e))
+        ap (λ (b : Bool). bitOf (eqb (t′ .key) key && b)) (done-or-beyond t′ (omega (arith, eqb-true (t′ .phase) 13 e)))
         ∙ ap bitOf (and-false (eqb (t′ .key) key)) in
         omega (arith, moved, old, ap bitOf mine)
     go false e =
         let apart = eqb-false (t′ .phase) 13 e in
         let new : bitOf (eqb (t′ .key) key && busy t′) ≡ bitOf (eqb (t′ .key) key) =
-        ap (λ (b : Bool). bitOf (eqb (t′ .key) key && b)) (busy-is t′ next-first (omega arith))
+        ap (λ (b : Bool). bitOf (eqb (t′ .key) key && b)) (is-busy t′ (λ z. omega (arith, next-first)) (omega arith))
         ∙ ap bitOf (and-true (eqb (t′ .key) key)) in
         omega (arith, moved, old, ap bitOf mine)
 
@@ -229,7 +200,7 @@ give-tally key ts i t′ lt rest one = (
     light (loaded-rest rest),
     light′,
   ),
-  omega (arith, count-set (λ (u : Task). eqb (u .key) key && busy u) ts i t′ noTask lt, idle (busy-rest rest), new),
+  omega (arith, count-set (λ (u : Task). eqb (u .key) key && busy u) ts i t′ noTask lt, idle (rest-not-busy t (resting t rest)), new),
 )
   where
     t : Task
@@ -238,10 +209,6 @@ give-tally key ts i t′ lt rest one = (
     loaded-rest : (t .phase ≡ 0) ⊎ (t .phase ≡ 13) → loaded t ≡ false
     loaded-rest (inl e) = ap (λ (n : ℕ). within 9 10 n || (within 11 12 n && eqb (t .answer) 2)) e
     loaded-rest (inr e) = unloaded-done t e
-
-    busy-rest : (t .phase ≡ 0) ⊎ (t .phase ≡ 13) → busy t ≡ false
-    busy-rest (inl e) = idle-zero t e
-    busy-rest (inr e) = idle-done t e
 
     light : loaded t ≡ false → bitOf (eqb (t .key) key && loaded t) ≡ 0
     light h = ap (λ (b : Bool). bitOf (eqb (t .key) key && b)) h ∙ ap bitOf (and-false (eqb (t .key) key))
@@ -256,7 +223,7 @@ give-tally key ts i t′ lt rest one = (
 
     new : bitOf (eqb (t′ .key) key && busy t′) ≡ bitOf (eqb (t′ .key) key)
     new =
-        ap (λ (b : Bool). bitOf (eqb (t′ .key) key && b)) (busy-is t′ (omega arith) (omega arith))
+        ap (λ (b : Bool). bitOf (eqb (t′ .key) key && b)) (is-busy t′ (λ z. omega arith) (omega arith))
         ∙ ap bitOf (and-true (eqb (t′ .key) key))
 
 -- at rest nothing is loaded and nobody is busy
@@ -279,7 +246,6 @@ quiet-counts key (t ∷ ts) rest =
         ∙ ap bitOf (and-false (eqb (t .key) key))
 
     idle : (t .phase ≡ 0) ⊎ (t .phase ≡ 13) → bitOf (eqb (t .key) key && busy t) ≡ 0
-    idle (inl e) =
-        ap (λ (b : Bool). bitOf (eqb (t .key) key && b)) (idle-zero t e) ∙ ap bitOf (and-false (eqb (t .key) key))
-    idle (inr e) =
-        ap (λ (b : Bool). bitOf (eqb (t .key) key && b)) (idle-done t e) ∙ ap bitOf (and-false (eqb (t .key) key))
+    idle h =
+        ap (λ (b : Bool). bitOf (eqb (t .key) key && b)) (rest-not-busy t (resting t h))
+        ∙ ap bitOf (and-false (eqb (t .key) key))

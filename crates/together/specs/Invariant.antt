@@ -18,7 +18,7 @@ use Rattle.rules.specs.Table.{at, occupiedPlaces, entriesBetween}
 use Rattle.rules.specs.Lay.{holds}
 use Rattle.rules.specs.Record.{homePlaceOf}
 use Rattle.rules.specs.Record.{taskAt}
-use Rattle.rules.specs.Phase.{smaller, markOf}
+use Rattle.rules.specs.Lay.{smaller, markOf}
 use Rattle.theory.specs.Run.{unlock}
 use Rattle.theory.specs.Gaps as gaps
 use Rattle.theory.specs.Gaps.{Side, HomePlace, other}

@@ -15,12 +15,14 @@ use Rattle.rules.specs.Shape.{remainders, places}
 use Rattle.rules.specs.Entry.{Entry}
 use Rattle.rules.specs.Table.{at, occupiedPlaces}
 use Rattle.rules.specs.Record.{taskAt}
+use Rattle.rules.specs.Record.{taskAt}
+use Rattle.table_words.specs.Layout.{same-words}
 use Rattle.theory.specs.Run.{unlock}
 use Rattle.theory.specs.Gaps as gaps
 use Rattle.theory.specs.Gaps.{Side, other}
 use Rattle.theory.specs.Cut.{end}
-use Rattle.theory.specs.Locks.{occupied-unlock}
-use Rattle.together.specs.Frames.{Within, at-set, at-other, same-words, at-unlocked}
+use Rattle.theory.specs.Locks.{occupied-unlock, at-unlock}
+use Rattle.together.specs.Frames.{Within, at-set, at-other}
 use Rattle.together.specs.Invariant.{Looked, FilledEnd, Owns, by-left, by-right, Reserves, Apart, Unfinished, Inv}
 use Rattle.together.specs.Invariant.{Ends, ends-found, ends-full, ends-inserted, RightEnd, right-found}
 use Rattle.together.specs.Invariant.{right-full, right-waiting}
@@ -177,7 +179,7 @@ module _ (ws : List Word) (p : ℕ) (b : Bool) (lt : p < length ws) where
       (map unlock relocked)
       (map unlock ws)
       (length-map relocked unlock ∙ relocked-size ∙ sym (length-map ws unlock))
-      (λ q. at-unlocked relocked q ∙ relocked-words q ∙ sym (at-unlocked ws q)))
+      (λ q. at-unlock relocked q ∙ relocked-words q ∙ sym (at-unlock ws q)))
       ∙ occupied-unlock ws
 
 module _ {sh : Shape} {ws : List Word} {ts : List Task} {laid : List Word} {shown : List Entry} (i : ℕ) (t′ : Task)

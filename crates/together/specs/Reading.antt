@@ -19,7 +19,8 @@ use Rattle.rules.specs.Lay.{holds}
 use Rattle.rules.specs.Record.{homePlaceOf, toPhase, withHand, withGoal, withAnswer}
 use Rattle.rules.specs.Record.{taskAt}
 use Rattle.rules.specs.Phase as phase
-use Rattle.rules.specs.Phase.{to, smaller, markOf, readable, handOf, goalOf, readEntries}
+use Rattle.rules.specs.Phase.{to, readable, handOf, goalOf, readEntries}
+use Rattle.rules.specs.Lay.{smaller, markOf}
 use Rattle.theory.specs.Dealt.{and-both, and-left, and-right}
 use Rattle.theory.specs.Gaps as gaps
 use Rattle.theory.specs.Gaps.{AllTaken}

@@ -1,7 +1,7 @@
 -- A fair history when every task is idle or done: the words are those laid, each give has been answered, and where
 -- there was room the bytes are those of puts. The statements are in Demand3.
 -- Assumes nothing.
-use Prim.Native.Nat.{ℕ, suc, _+_, _*_, _≤_, _<_}
+use Prim.Native.Nat.{ℕ, _+_, _*_, _≤_, _<_}
 use mathlib.Core.Path.{_≡_, refl, sym, ap, ap₂, _∙_, subst}
 use mathlib.Core.Logic.{_⊎_, _≢_, inl, inr}
 use mathlib.Core.Bool.{Bool, true, false, not, _&&_, _||_, true≢false, false≢true}
@@ -22,7 +22,7 @@ use Rattle.rules.specs.Build.{puts}
 use Rattle.rules.specs.Record.{atRest}
 use Rattle.rules.specs.Record.{taskAt}
 use Rattle.table_words.specs.Range.{InRange, good-table, remainders-high}
-use Rattle.table_words.specs.Layout.{bytes-are, same-bytes}
+use Rattle.table_words.specs.Layout.{bytes-are, same-bytes, same-words}
 use Rattle.theory.specs.Run.{unlock}
 use Rattle.theory.specs.Every as every
 use Rattle.theory.specs.Every.{All}
@@ -43,13 +43,7 @@ use Rattle.together.specs.Machine.{Said, World, timesGiven, timesSaid, t
 use Rattle.together.specs.History.{quiet-counts}
 use Rattle.together.specs.Fair.{Means, means-full, means-shown, Spacious, Fair, rest-at, rest-owns}
 
--- words that are the same at each place are the same
-words-path : (ws vs : List Word) → length ws ≡ length vs → ((p : ℕ) → at ws p ≡ at vs p) → ws ≡ vs
-words-path [] [] size same = refl
-words-path [] (v ∷ vs) size same = absurd (omega arith)
-words-path (w ∷ ws) [] size same = absurd (omega arith)
-words-path (w ∷ ws) (v ∷ vs) size same = ap₂ _∷_ (same 0) (words-path ws vs (omega arith) (λ p. same (suc p)))
-
+-- an unlocked word is its unlocked form
 unlock-free : (w : Word) → w .lock ≡ false → unlock w ≡ w
 unlock-free w free = word-path refl refl refl refl (sym free)
 
@@ -164,7 +158,7 @@ module _ {sh : Shape} {start : List ℕ} {w : World} (t : PlainTable sh start) (
     -- the words are those laid
     words-laid : wordsOf (w .table) ≡ f .laid
     words-laid =
-        words-path
+        same-words
         (wordsOf (w .table))
         (f .laid)
         (words-size low (f .inv) ∙ sym (f .inv .plain .size))

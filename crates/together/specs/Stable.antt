@@ -16,15 +16,16 @@ use Rattle.rules.specs.Entry.{Entry, split}
 use Rattle.rules.specs.Table.{at, between, entriesBetween, virginPlaces, deal}
 use Rattle.rules.specs.Lay.{holds}
 use Rattle.rules.specs.Record.{homePlaceOf}
-use Rattle.rules.specs.Phase.{smaller, markOf}
+use Rattle.rules.specs.Lay.{smaller, markOf}
 use Rattle.theory.specs.Run.{unlock}
 use Rattle.theory.specs.Dealt.{word-path}
+use Rattle.theory.specs.Locks.{at-unlock}
 use Rattle.theory.specs.Gaps as gaps
 use Rattle.theory.specs.Gaps.{Side, other}
 use Rattle.theory.specs.Cut.{end, from, upTo, between-at}
 use Rattle.theory.specs.Motion.{finish}
 use Rattle.theory.specs.Region.{finish-unlock}
-use Rattle.together.specs.Frames.{Within, finish-agree, at-unlocked}
+use Rattle.together.specs.Frames.{Within, finish-agree}
 use Rattle.together.specs.Invariant.{Occupied, LookedLeft, Looked, Fills, FilledEnd, MayFill, Moving, Owns}
 use Rattle.together.specs.Invariant.{by-left, by-right, Reserves}
 use Rattle.together.specs.Invariant.{Ends, ends-found, ends-full, ends-inserted, RightEnd, right-found}
@@ -83,7 +84,7 @@ pub finish-at :
     (ws : List Word) (hand goal mark homeAt q : ℕ) →
     unlock (at (finish ws hand goal mark homeAt) q) ≡ at (finish (map unlock ws) hand goal mark homeAt) q
 finish-at ws hand goal mark homeAt q =
-    sym (at-unlocked (finish ws hand goal mark homeAt) q)
+    sym (at-unlock (finish ws hand goal mark homeAt) q)
     ∙ ap (λ (vs : List Word). at vs q) (finish-unlock ws hand goal mark homeAt)
 
 -- the ends of a stretch and what lies between, in numbers
@@ -134,7 +135,7 @@ finish-same sh ws vs t side size size′ look hl hh gl gh closes alike q near =
     (omega (arith, from-ge side (t .left)), omega (arith, upTo-le side (t .right)))
     (omega (arith, look .leftward .below), omega (arith, look .above))
     (λ one. omega (arith, closes one, from-ge side (t .left)))
-    (λ p i. at-unlocked ws p ∙ alike p i ∙ sym (at-unlocked vs p))
+    (λ p i. at-unlock ws p ∙ alike p i ∙ sym (at-unlock vs p))
     q
     near
     ∙ sym (finish-at vs (t .hand) (t .goal) (t .mark) (homePlaceOf sh t) q)

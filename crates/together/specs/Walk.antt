@@ -3,13 +3,13 @@
 -- Assumes nothing.
 use Prim.Native.Nat.{ℕ, _+_, _-_, _≤_, _<_}
 use mathlib.Core.Path.{_≡_, refl, sym, ap, ap₂, _∙_, subst}
-use mathlib.Core.Logic.{_⊎_, _≢_, inl, inr}
-use mathlib.Core.Bool.{Bool, true, false, not, cond, _&&_, _||_, true≢false, false≢true}
+use mathlib.Core.Logic.{_⊎_, _≢_, ⊎-elim, inl, inr}
+use mathlib.Core.Bool.{Bool, true, false, not, cond, _&&_, _||_, and-false, true≢false, false≢true}
 use mathlib.Core.List.{List}
 use native.Mathlib.Omega.{arith}
 use lib.ListN.{length}
 use lib.Dec.{eqb, leb}
-use borrow.Author.Tests.{ne-eqb, eqb-true, le-leb, lt-leb}
+use borrow.Author.Tests.{le-leb, lt-leb, not-true}
 use Rattle.rules.specs.declared.Shape.{Shape}
 use Rattle.rules.specs.declared.Task.{Task}
 use Rattle.rules.specs.Lists.{bitOf}
@@ -24,12 +24,15 @@ use Rattle.rules.specs.Phase as phase
 use Rattle.rules.specs.Phase.{Step, to}
 use Rattle.rules.specs.Step.{ofPhase, steps, orUnsound, stepOf}
 use Rattle.table_words.specs.Split.{split-in-shape}
-use Rattle.theory.specs.Dealt.{word-path, and-left, and-right}
+use Rattle.table_words.specs.Busy.{not-resting}
+use Rattle.theory.specs.Dealt.{and-left, and-right}
+use Rattle.theory.specs.Locks.{void-unlock}
 use Rattle.theory.specs.Gaps as gaps
 use Rattle.theory.specs.Gaps.{Side, other, AllTaken}
 use Rattle.theory.specs.Cut.{end}
 use Rattle.theory.specs.Places.{occupied-at}
 use Rattle.theory.specs.Building.{after-put}
+use Rattle.together.specs.Stable.{word-of}
 use Rattle.together.specs.Frames.{Within}
 use Rattle.together.specs.Invariant.{Occupied, LookedLeft, Looked, Owns, by-left, by-right, Reserves, Apart}
 use Rattle.together.specs.Invariant.{Unfinished, Inv}
@@ -95,44 +98,19 @@ byNumber n sh ws t =
     (cond (eqb n 11) (phase.freeLeft sh ws t) (phase.freeRight sh ws t)))))))))))
 
 busy-not-rest : (t : Task) → 1 ≤ t .phase → t .phase ≤ 12 → atRest t ≡ false
-unfolding atRest
-busy-not-rest t a b =
-    ap₂
-    _||_
-    (ne-eqb (t .phase) 0 (λ (e : t .phase ≡ 0). omega arith))
-    (ne-eqb (t .phase) 13 (λ (e : t .phase ≡ 13). omega arith))
+busy-not-rest t a b = not-resting t (⊎-elim (λ e. omega arith) (λ e. omega arith))
 
 -- an occupied word is not 0
 occupied-not-void : (w : Word) → w .occupied ≡ true → isVoid w ≡ false
 unfolding isVoid
 occupied-not-void w taken =
     ap (λ (b : Bool). eqb (w .remainder) 0 && (not b && (not (w .virgin) && not (w .change)))) taken
-    ∙ never (eqb (w .remainder) 0)
-  where
-    never : (a : Bool) → (a && false) ≡ false
-    never true = refl
-    never false = refl
+    ∙ and-false (eqb (w .remainder) 0)
 
 -- a word that is 0
 zero-is : (w : Word) → isZero w ≡ true → w ≡ zeroWord
-unfolding isZero isVoid
-zero-is w z =
-    word-path
-    (eqb-true (w .remainder) 0 (and-left (eqb (w .remainder) 0) _ void))
-    (unless (w .occupied) (and-left (not (w .occupied)) _ bits))
-    (unless (w .virgin) (and-left (not (w .virgin)) _ (and-right (not (w .occupied)) _ bits)))
-    (unless (w .change) (and-right (not (w .virgin)) _ (and-right (not (w .occupied)) _ bits)))
-    (unless (w .lock) (and-right (isVoid w) _ z))
-  where
-    unless : (b : Bool) → not b ≡ true → b ≡ false
-    unless true e = sym e
-    unless false e = refl
-
-    void : isVoid w ≡ true
-    void = and-left (isVoid w) _ z
-
-    bits : (not (w .occupied) && (not (w .virgin) && not (w .change))) ≡ true
-    bits = and-right (eqb (w .remainder) 0) _ void
+unfolding isZero
+zero-is w z = word-of (void-unlock w (and-left (isVoid w) _ z)) (not-true (w .lock) (and-right (isVoid w) _ z))
 
 -- an unfilled end of a task that reserves its stretch
 pub record FreeEnd (ws : List Word) (t : Task) : Type 0 where

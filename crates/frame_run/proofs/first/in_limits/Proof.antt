@@ -2,7 +2,8 @@
 -- Assumes nothing.
 use borrow.Author.Needs.{needs}
 use native.Mathlib.Omega.{arith}
-use Rattle.frame_run.specs.Limiting.{inside, below, above, all-in, not-m, not-r, not-tasks}
+use Rattle.table_words.specs.Tests.{inside, below, above}
+use Rattle.frame_run.specs.Limiting.{all-in, not-m, not-r, not-tasks}
 use Rattle.frame_run.proofs.first.in_limits.Statement.{statement}
 use Rattle.frame_run.proofs.first.in_limits.Tie as tie
 

@@ -8,8 +8,9 @@ use denote.Ref.{now}
 use Rattle.rules.specs.Lists.{bitOf, count}
 use Rattle.rules.specs.Bytes.{wordsOf}
 use Rattle.table_words.specs.Layout.{words-length}
+use Rattle.table_words.specs.Counts.{count-le}
 use Rattle.theory.specs.Dealt.{isOccupied}
-use Rattle.table_find.specs.Count.{count-few, counted, count-begins, count-passes, count-ends}
+use Rattle.table_find.specs.Count.{counted, count-begins, count-passes, count-ends}
 use Rattle.table_find.proofs.fill.count_occupied.Statement.{statement}
 use Rattle.table_find.proofs.fill.count_occupied.Tie as tie
 
@@ -36,7 +37,7 @@ add-k c =
     let head = c .before .before .before .before in
     let start = head .before .before in
     let bs = now (start .args .table) in
-    omega (arith, head .loop .inv, count-few isOccupied (wordsOf bs), words-length bs (start .args .n) (start .pre .0))
+    omega (arith, head .loop .inv, count-le isOccupied (wordsOf bs), words-length bs (start .args .n) (start .pre .0))
 
 add-i : tie.Need-add-i Inv-loop μ-loop
 add-i c = omega arith

@@ -8,8 +8,8 @@ use Rattle.rules.specs.Shape.{places}
 use Rattle.rules.specs.Fill.{figure}
 use Rattle.table_words.specs.Range.{homes-high}
 use Rattle.table_words.specs.Layout.{words-length}
+use Rattle.table_words.specs.Counts.{count-le}
 use Rattle.theory.specs.Dealt.{isOccupied}
-use Rattle.table_find.specs.Count.{count-few}
 use Rattle.table_find.proofs.fill.figure.Statement.{statement}
 use Rattle.table_find.proofs.fill.figure.Tie as tie
 
@@ -30,7 +30,7 @@ mul-result c =
     omega (
       arith,
       homes-high (start .args .sh) (start .pre .0),
-      count-few isOccupied ws,
+      count-le isOccupied ws,
       words-length (now (start .args .table)) (places (start .args .sh)) (start .pre .1),
     )
 

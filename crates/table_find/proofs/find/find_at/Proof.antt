@@ -1,28 +1,18 @@
 -- `find_at` meets its contract: the guards decide, then the home.
 -- Assumes nothing.
-use mathlib.Core.Path.{_≡_, sym, _∙_, ap}
-use mathlib.Core.Bool.{Bool}
+use mathlib.Core.Path.{sym, _∙_, ap}
 use borrow.Author.Needs.{needs}
 use native.Mathlib.Omega.{arith}
 use denote.Ref.{now}
 use Rattle.rules.specs.Bytes.{wordsOf}
 use Rattle.rules.specs.Shape.{places}
-use Rattle.rules.specs.Table.{at}
 use Rattle.table_words.specs.Layout.{words-length}
-use Rattle.theory.specs.Dealt.{isOccupied}
 use Rattle.table_read.specs.Read.{entry}
-use Rattle.table_find.specs.Key.{home-place}
+use Rattle.theory.specs.Keys.{home-place}
+use Rattle.table_find.specs.Around.{home-bit}
 use Rattle.table_find.specs.Finding.{aloneSays, found-barred, found-alone}
 use Rattle.table_find.proofs.find.find_at.Statement.{statement}
 use Rattle.table_find.proofs.find.find_at.Tie as tie
-
--- the home's bit, as it was tested
-home-bit :
-    (tested : tie.After-occupied) (b : Bool) → tested .occupied .result ≡ b →
-    let start = tested .before .before .before .before .before in
-    at (wordsOf (now (start .args .table))) (start .args .h .0) .occupied ≡ b
-home-bit tested b is =
-    sym (ap isOccupied (tested .before .word-at .ensures)) ∙ sym (tested .occupied .ensures) ∙ is
 
 guards-void-requires : tie.Need-guards-void-requires
 guards-void-requires c κs = search needs
@@ -41,7 +31,7 @@ find-cluster-requires c κs =
     let guarded = c .before .before .before in
     let start = guarded .before .before .before in
     let void = sym (guarded .before .guards-void .ensures) ∙ guarded .if1 .taken in
-    (start .pre .0, (start .pre .1 .0, (start .pre .1 .1, (void, home-bit (c .before) _ (c .if2 .taken)))))
+    (start .pre .0, (start .pre .1 .0, (start .pre .1 .1, (void, home-bit (c .before .before .word-at .ensures) (c .before .occupied .ensures) (c .if2 .taken)))))
 
 find-alone-requires : tie.Need-find-alone-requires
 find-alone-requires c κs = search needs
@@ -65,7 +55,7 @@ returns-2 c =
     (sym (guarded .before .guards-void .ensures) ∙ guarded .if1 .taken)
     (words-length bs (places (start .args .sh)) (start .pre .1 .0))
     (home-place (start .pre .1 .1))
-    (home-bit tested _ (c .before .if2 .left)))
+    (home-bit (tested .before .word-at .ensures) (tested .occupied .ensures) (c .before .if2 .left)))
 
 returns-3 : tie.Need-returns-3
 returns-3 c =

@@ -7,50 +7,25 @@ use Rattle.rules.specs.Bytes.{wordsOf}
 use Rattle.rules.specs.Answer.{says}
 use Rattle.table_read.specs.Read.{entry, readOf}
 use Rattle.table_read.specs.declared.read.Read.{Read}
-use Rattle.table_find.specs.Around.{Crowded, home-inside, left-open, table-small, gap-inside, ends-apart, end-inside}
-use Rattle.table_find.specs.Around.{virgins-counted, changes-counted, told-sound, told-locked, told-open}
+use Rattle.table_find.specs.Around as around
+use Rattle.table_find.specs.Around.{Crowded, left-owed, right-owed, check-owed, told-sound, told-locked, told-open}
 use Rattle.table_find.specs.Around.{crowded-inside, read-beside, beside-cluster}
-use Rattle.table_find.specs.Key.{home-place}
 use Rattle.table_find.specs.Finding.{found-unsound, found-locked, found-inside}
 use Rattle.table_find.proofs.find.find_cluster.Statement.{statement}
 use Rattle.table_find.proofs.find.find_cluster.Tie as tie
 
 crowded : (start : tie.Start) → Crowded (start .args .sh) (now (start .args .table)) (start .args .h .0)
-crowded start =
-    record {
-      range = start .pre .0;
-      even = start .pre .1 .0;
-      home-place = home-place (start .pre .1 .1 .0);
-      void = start .pre .1 .1 .1 .0;
-      full = start .pre .1 .1 .1 .1;
-    }
+crowded start = around.crowded (start .pre)
 
 left-end-requires : tie.Need-left-end-requires
-left-end-requires c κs =
-    let here = crowded (c .before) in
-    (home-inside here, (left-open here, here .full))
+left-end-requires c κs = left-owed (crowded (c .before))
 
 right-end-requires : tie.Need-right-end-requires
-right-end-requires c κs =
-    let here = crowded (c .before .before) in
-    (table-small here, (gap-inside here, (left-open here, (here .full, c .left-end .ensures))))
+right-end-requires c κs = right-owed (crowded (c .before .before)) (c .left-end .ensures)
 
 check-run-requires : tie.Need-check-run-requires
 check-run-requires c κs =
-    let here = crowded (c .before .before .before) in
-    let l = c .before .left-end .result in
-    let r = c .right-end .result in
-    let left = c .before .left-end .ensures in
-    let right = c .right-end .ensures in (
-      here .range,
-      (
-        ends-apart here l r left right,
-        (
-          end-inside here l r left right,
-          (virgins-counted here l r left right, changes-counted here l r left right),
-        ),
-      ),
-    )
+    check-owed (crowded (c .before .before .before)) _ _ (c .before .left-end .ensures) (c .right-end .ensures)
 
 find-beside-requires : tie.Need-find-beside-requires
 find-beside-requires c κs =

@@ -11,7 +11,7 @@ use Rattle.table_read.specs.FromLeft.{begins, LeftCounted}
 use Rattle.table_read.specs.Read.{entry, readOf}
 use Rattle.table_read.specs.declared.read.Read.{Read}
 use Rattle.table_find.specs.Around.{Inside, cluster-inside, read-beside, beside-cluster}
-use Rattle.table_find.specs.Key.{home-place}
+use Rattle.theory.specs.Keys.{home-place}
 use Rattle.table_put.specs.Putting.{put-inside, ready}
 use Rattle.table_put.proofs.adding.put_beside.Statement.{statement}
 use Rattle.table_put.proofs.adding.put_beside.Tie as tie

@@ -1,30 +1,19 @@
 -- `put_clean_at` meets its contract: in a clean table the surroundings need no look.
 -- Assumes nothing.
-use mathlib.Core.Path.{_≡_, sym, _∙_, ap}
-use mathlib.Core.Bool.{Bool}
 use borrow.Author.Needs.{needs}
 use native.Mathlib.Omega.{arith}
 use denote.Ref.{now}
 use Rattle.rules.specs.Bytes.{wordsOf}
 use Rattle.rules.specs.Shape.{places}
-use Rattle.rules.specs.Table.{at}
 use Rattle.table_words.specs.Range.{remainders-high}
 use Rattle.table_words.specs.Layout.{words-length}
-use Rattle.theory.specs.Dealt.{isOccupied}
 use Rattle.table_read.specs.Read.{entry}
-use Rattle.table_find.specs.Around.{Open, open-guards, left-free}
+use Rattle.theory.specs.Places.{left-free}
+use Rattle.table_find.specs.Around.{Open, open-guards, home-bit}
 use Rattle.table_put.specs.Filling.{clean-open}
 use Rattle.table_put.specs.Putting.{put-alone}
 use Rattle.table_put.proofs.build.put_clean_at.Statement.{statement}
 use Rattle.table_put.proofs.build.put_clean_at.Tie as tie
-
--- the home's bit, as it was tested
-home-bit :
-    (tested : tie.After-occupied) (b : Bool) → tested .occupied .result ≡ b →
-    let start = tested .before .before .before .before in
-    at (wordsOf (now (start .args .table))) (start .args .h .0) .occupied ≡ b
-home-bit tested b is =
-    sym (ap isOccupied (tested .before .word-at .ensures)) ∙ sym (tested .occupied .ensures) ∙ is
 
 free : (start : tie.Start) → Open (start .args .sh) (wordsOf (now (start .args .table))) (start .args .h .0)
 free start =
@@ -50,7 +39,7 @@ left-end-requires c κs =
     let start = full .before .before .before .before .before in
     let void = open-guards (free start) in (
       omega (arith, start .pre .1 .1 .0 .home-high),
-      (left-free (start .args .sh) _ void, home-bit (full .before) _ (full .if1 .taken)),
+      (left-free (start .args .sh) _ void, home-bit (full .before .before .word-at .ensures) (full .before .occupied .ensures) (full .if1 .taken)),
     )
 
 put-beside-requires : tie.Need-put-beside-requires
@@ -58,7 +47,7 @@ put-beside-requires c κs =
     let left = c .before in
     let full = left .before .before in
     let start = full .before .before .before .before .before in
-    let bit = home-bit (full .before) _ (full .if1 .taken) in
+    let bit = home-bit (full .before .before .word-at .ensures) (full .before .occupied .ensures) (full .if1 .taken) in
     (start .pre .0, (start .pre .1 .0, (start .pre .1 .1 .0, (free start, (bit, left .left-end .ensures)))))
 
 same-length : tie.Need-same-length
@@ -92,7 +81,7 @@ returns-2 c =
     (start .pre .1 .1 .0)
     size
     (free start)
-    (home-bit (empty .before) _ (empty .if1 .left)))
+    (home-bit (empty .before .before .word-at .ensures) (empty .before .occupied .ensures) (empty .if1 .left)))
     (put .put-alone .ensures)
 
 pub put-clean-at-spec : {M : Type 1} → statement M

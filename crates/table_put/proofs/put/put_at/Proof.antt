@@ -1,28 +1,17 @@
 -- `put_at` meets its contract: the guards decide, then the home.
 -- Assumes nothing.
-use mathlib.Core.Path.{_≡_, sym, _∙_, ap}
-use mathlib.Core.Bool.{Bool}
+use mathlib.Core.Path.{sym, _∙_}
 use borrow.Author.Needs.{needs}
 use native.Mathlib.Omega.{arith}
 use denote.Ref.{now}
-use Rattle.rules.specs.Bytes.{wordsOf}
 use Rattle.rules.specs.Shape.{places}
-use Rattle.rules.specs.Table.{at}
 use Rattle.table_words.specs.Range.{remainders-high}
 use Rattle.table_words.specs.Layout.{words-length}
-use Rattle.theory.specs.Dealt.{isOccupied}
 use Rattle.table_read.specs.Read.{entry}
+use Rattle.table_find.specs.Around.{home-bit}
 use Rattle.table_put.specs.Putting.{put-barred, put-empty}
 use Rattle.table_put.proofs.put.put_at.Statement.{statement}
 use Rattle.table_put.proofs.put.put_at.Tie as tie
-
--- the home's bit, as it was tested
-home-bit :
-    (tested : tie.After-occupied) (b : Bool) → tested .occupied .result ≡ b →
-    let start = tested .before .before .before .before .before .before .before in
-    at (wordsOf (now (start .args .table))) (start .args .h .0) .occupied ≡ b
-home-bit tested b is =
-    sym (ap isOccupied (tested .before .word-at .ensures)) ∙ sym (tested .occupied .ensures) ∙ is
 
 guards-void-requires : tie.Need-guards-void-requires
 guards-void-requires c κs = search needs
@@ -42,7 +31,7 @@ put-cluster-requires c κs =
     let guarded = full .before .before .before .before in
     let start = guarded .before .before .before .before in
     let void = sym (guarded .before .guards-void .ensures) ∙ guarded .if1 .taken in
-    (start .pre .0, (start .pre .1 .0, (start .pre .1 .1, (void, home-bit (full .before) _ (full .if2 .taken)))))
+    (start .pre .0, (start .pre .1 .0, (start .pre .1 .1, (void, home-bit (full .before .before .word-at .ensures) (full .before .occupied .ensures) (full .if2 .taken)))))
 
 same-length : tie.Need-same-length
 same-length c = search needs
@@ -75,7 +64,7 @@ returns-2 c =
     (start .pre .1 .1)
     (words-length (now (start .args .table)) (places (start .args .sh)) (start .pre .1 .0))
     (sym (guarded .before .guards-void .ensures) ∙ guarded .if1 .taken)
-    (home-bit (empty .before) _ (empty .if2 .left)))
+    (home-bit (empty .before .before .word-at .ensures) (empty .before .occupied .ensures) (empty .if2 .left)))
     (put .put-empty .ensures)
 
 same-length-3 : tie.Need-same-length-3

@@ -6,51 +6,26 @@ use denote.Ref.{now}
 use Rattle.rules.specs.Shape.{places}
 use Rattle.table_words.specs.Layout.{words-length}
 use Rattle.table_read.specs.Read.{entry}
-use Rattle.table_find.specs.Around.{Crowded, home-inside, left-open, table-small, gap-inside, ends-apart, end-inside}
-use Rattle.table_find.specs.Around.{virgins-counted, changes-counted, told-sound, told-locked, told-open}
-use Rattle.table_find.specs.Key.{home-place}
+use Rattle.table_find.specs.Around as around
+use Rattle.table_find.specs.Around.{Crowded, left-owed, right-owed, check-owed, told-sound, told-locked, told-open}
 use Rattle.table_put.specs.Putting.{put-unsound, put-locked}
 use Rattle.table_put.proofs.put.put_cluster.Statement.{statement}
 use Rattle.table_put.proofs.put.put_cluster.Tie as tie
 
 crowded : (start : tie.Start) → Crowded (start .args .sh) (now (start .args .table)) (start .args .h .0)
-crowded start =
-    record {
-      range = start .pre .0;
-      even = start .pre .1 .0;
-      home-place = home-place (start .pre .1 .1 .0);
-      void = start .pre .1 .1 .1 .0;
-      full = start .pre .1 .1 .1 .1;
-    }
+crowded start = around.crowded (start .pre)
 
 left-end-requires : tie.Need-left-end-requires
-left-end-requires c κs =
-    let here = crowded (c .before .before) in
-    (home-inside here, (left-open here, here .full))
+left-end-requires c κs = left-owed (crowded (c .before .before))
 
 right-end-requires : tie.Need-right-end-requires
-right-end-requires c κs =
-    let here = crowded (c .before .before .before .before) in
-    (table-small here, (gap-inside here, (left-open here, (here .full, c .before .left-end .ensures))))
+right-end-requires c κs = right-owed (crowded (c .before .before .before .before)) (c .before .left-end .ensures)
 
 check-run-requires : tie.Need-check-run-requires
 check-run-requires c κs =
     let ended = c .before in
     let lefted = ended .before .before in
-    let here = crowded (lefted .before .before .before) in
-    let l = lefted .left-end .result in
-    let r = ended .right-end .result in
-    let left = lefted .left-end .ensures in
-    let right = ended .right-end .ensures in (
-      here .range,
-      (
-        ends-apart here l r left right,
-        (
-          end-inside here l r left right,
-          (virgins-counted here l r left right, changes-counted here l r left right),
-        ),
-      ),
-    )
+    check-owed (crowded (lefted .before .before .before)) _ _ (lefted .left-end .ensures) (ended .right-end .ensures)
 
 same-length : tie.Need-same-length
 same-length c = search needs

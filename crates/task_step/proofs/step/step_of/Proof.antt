@@ -3,7 +3,7 @@
 use borrow.Author.Needs.{needs}
 use mathlib.Core.Path.{sym, _∙_}
 use Rattle.rules.specs.Step.{stepOf}
-use Rattle.task_fits.specs.Fit.{resting, not-resting}
+use Rattle.table_words.specs.Busy.{resting, not-resting}
 use Rattle.task_step.proofs.step.step_of.Statement.{statement}
 use Rattle.task_step.proofs.step.step_of.Tie as tie
 
