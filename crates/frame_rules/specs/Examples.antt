@@ -15,9 +15,9 @@ use Rattle.rules.specs.Bytes.{wordsOf, bytesOf}
 use Rattle.rules.specs.Shape.{shapeOf, inRange, homes, remainders, keys, places, rightGuard, fitsLength, goodTable}
 use Rattle.rules.specs.Entry.{placeOfHome, homeOfPlace, homeOf, remainderOf, split, sameHome, sameEntry, precedes}
 use Rattle.rules.specs.Table.{endsInChange, rising, soundRun, virginPlaces, deal, entriesBetween, guardsVoid}
-use Rattle.rules.specs.Lay.{holds}
+use Rattle.rules.specs.Lay.{holds, smaller, markOf}
 use Rattle.rules.specs.Record.{homePlaceOf, busy, atRest, fitsHand, fitsBusy, fits}
-use Rattle.rules.specs.Phase.{home, lookLeft, lookRight, lockLeft, lockRight, backOff, readable, smaller, markOf}
+use Rattle.rules.specs.Phase.{home, lookLeft, lookRight, lockLeft, lockRight, backOff, readable}
 use Rattle.rules.specs.Phase.{handOf, goalOf, readEntries, read, movesOn, fillHand, neighbour, exchange, move}
 use Rattle.rules.specs.Phase.{setChange, setVirgin, marked, mark, freeLeft, freeRight}
 use Rattle.rules.specs.Step.{ofPhase, stepOf, step}

@@ -3,27 +3,24 @@
 -- place.
 -- Assumes nothing.
 use Prim.Native.Nat.{ℕ, _+_, _-_}
-use mathlib.Core.Bool.{Bool, true, false, not, cond, _&&_, _||_}
+use mathlib.Core.Bool.{Bool, true, false, cond, _&&_}
 use mathlib.Core.List.{List}
 use lib.ListN.{set}
 use lib.Dec.{ltb, eqb}
 use Rattle.rules.specs.declared.Shape.{Shape}
 use Rattle.rules.specs.declared.Task.{Task}
-use Rattle.rules.specs.Lists.{count, all, any}
-use Rattle.rules.specs.Word.{Word, isZero, isLock, withLock, withVirgin, withChange, filledWith, withPayload}
+use Rattle.rules.specs.Lists.{all}
+use Rattle.rules.specs.Word.{Word, isZero, isLock, aloneWord, withLock, withVirgin, withChange, filledWith}
+use Rattle.rules.specs.Word.{withPayload}
 use Rattle.rules.specs.Shape.{rightGuard}
-use Rattle.rules.specs.Entry.{Entry, split, sameHome, precedes}
+use Rattle.rules.specs.Entry.{Entry, split}
 use Rattle.rules.specs.Table.{at, between, soundRun, entriesBetween}
-use Rattle.rules.specs.Lay.{holds}
+use Rattle.rules.specs.Lay.{holds, smaller, markOf}
 use Rattle.rules.specs.Record.{homePlaceOf, toPhase, withLeft, withRight, withHand, withGoal, withAnswer}
 
 pub data Step : Type 0 where
   to : Task → List Word → Step
   unsound : Step
-
--- a word with occupied, virgin and change set
-abbrev pub aloneWord : ℕ → Word
-aloneWord x = record { remainder = x; occupied = true; virgin = true; change = true; lock = false }
 
 -- 1 home: word locked, stay; word 0, fill it, answer 2, phase 13; occupied, left = H − 1, phase 2; otherwise 6
 unfoldable pub home : Shape → List Word → Task → Step
@@ -71,15 +68,6 @@ readable sh ws t =
     && isLock (at ws (t .right))
     && all (λ (w : Word). w .occupied) (between ws (t .left) (t .right))
     && soundRun sh (between ws (t .left) (t .right))
-
--- the number of smaller keys
-unfoldable pub smaller : Entry → List Entry → ℕ
-smaller e es = count (λ (f : Entry). precedes f e) es
-
--- 2 if the key's group is new, 1 if the key is larger than all of its group, else 0
-unfoldable pub markOf : Entry → List Entry → ℕ
-markOf e es =
-    cond (any (sameHome e) es) (cond (all (λ (f : Entry). not (sameHome e f) || precedes f e) es) 1 0) 2
 
 -- if left is not 0, hand = left and goal = left + t; if it is, hand = right and goal = t + 1
 unfoldable pub handOf : Task → ℕ

@@ -12,18 +12,17 @@ use lib.Seq.{length-slice}
 use borrow.Author.Tests.{eq-eqb, ne-eqb}
 use Rattle.rules.specs.declared.Shape.{Shape}
 use Rattle.rules.specs.Lists.{any}
-use Rattle.rules.specs.Word.{Word, isVoid}
+use Rattle.rules.specs.Word.{Word, isVoid, aloneWord}
 use Rattle.rules.specs.Bytes.{wordsOf}
 use Rattle.rules.specs.Shape.{places, rightGuard}
 use Rattle.rules.specs.Entry.{Entry, precedes}
 use Rattle.rules.specs.Table.{at, occupiedPlaces, leftGap, rightGap, between, guardsVoid}
 use Rattle.rules.specs.Table.{virginPlaces, deal, entriesBetween, clusterEntries}
 use Rattle.rules.specs.Room.{roomBeside, roomFor}
-use Rattle.rules.specs.Lay.{holds}
+use Rattle.rules.specs.Lay.{holds, smaller, markOf}
 use Rattle.rules.specs.Answer.{Answer, says, refuses, Leaves, leaves}
 use Rattle.rules.specs.Find.{soundAround, lockedAround}
 use Rattle.rules.specs.Put.{enlargedFrom, addAt, Outcome, keeps, writes, addTo, putIn, bytesAfter}
-use Rattle.rules.specs.Phase.{aloneWord, smaller, markOf}
 use Rattle.table_words.specs.Range.{InRange, remainders-high}
 use Rattle.table_words.specs.Split.{InShape}
 use Rattle.table_words.specs.Layout.{same-bytes, bytes-are}

@@ -35,7 +35,7 @@ ghost use Rattle.rules.specs.Bytes.{wordsOf};
 ghost use Rattle.rules.specs.Shape.{keys, places};
 ghost use Rattle.rules.specs.Entry.{split};
 ghost use Rattle.rules.specs.Table.{at, guardsVoid};
-ghost use Rattle.rules.specs.Phase.{aloneWord};
+ghost use Rattle.rules.specs.Word.{aloneWord};
 ghost use Rattle.rules.specs.Answer.{says, leaves, putSays};
 ghost use Rattle.rules.specs.Put.{putIn, put as spec-put};
 ghost use Rattle.table_words.specs.Range.{InRange};

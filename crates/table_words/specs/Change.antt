@@ -8,9 +8,8 @@ use native.Mathlib.Omega.{arith}
 use lib.Dec.{eqb}
 use borrow.Author.Tests.{eq-eqb, ne-eqb, eqb-true, eqb-false}
 use Rattle.rules.specs.Lists.{bitOf}
-use Rattle.rules.specs.Word.{Word, wordOf, numberOf, isVoid, isZero, isLock}
+use Rattle.rules.specs.Word.{Word, wordOf, numberOf, isVoid, isZero, isLock, aloneWord}
 use Rattle.rules.specs.Word.{withLock, withVirgin, withChange, filledWith, withPayload}
-use Rattle.rules.specs.Phase.{aloneWord}
 use Rattle.table_words.specs.Number.{Small, small, remainder-small, number-of-word, word-of-number, fields}
 
 -- a number that is the number of w makes w

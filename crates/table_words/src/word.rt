@@ -3,9 +3,8 @@ ghost use mathlib.Core.Path.{_≡_};
 ghost use mathlib.Core.Bool.{true};
 ghost use Prim.Native.Nat.{_<_};
 ghost use Rattle.rules.specs.Lists.{bitOf};
-ghost use Rattle.rules.specs.Word.{wordOf, isVoid, isZero, isLock};
+ghost use Rattle.rules.specs.Word.{wordOf, isVoid, isZero, isLock, aloneWord};
 ghost use Rattle.rules.specs.Word.{withLock, withVirgin, withChange, filledWith, withPayload};
-ghost use Rattle.rules.specs.Phase.{aloneWord};
 
 // A bit as a number.
 fn bit_of(b: bool) -> u16

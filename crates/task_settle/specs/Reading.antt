@@ -19,8 +19,9 @@ use Rattle.rules.specs.Bytes.{wordsOf}
 use Rattle.rules.specs.Shape.{places, rightGuard}
 use Rattle.rules.specs.Entry.{Entry, split, precedes}
 use Rattle.rules.specs.Table.{at, occupiedPlaces, leftGap, between, soundRun, due, deal, virginPlaces, entriesBetween}
+use Rattle.rules.specs.Lay.{smaller}
 use Rattle.rules.specs.Record.{homePlaceOf, toPhase, withHand, withGoal, withAnswer}
-use Rattle.rules.specs.Phase.{smaller, handOf, goalOf, readEntries, readable}
+use Rattle.rules.specs.Phase.{handOf, goalOf, readEntries, readable}
 use Rattle.table_words.specs.Range.{homes-high}
 use Rattle.table_words.specs.Number.{bit-small}
 use Rattle.table_words.specs.Layout.{words-length}

@@ -9,9 +9,8 @@ use mathlib.Core.List.{List, _++_}
 use lib.ListN.{length}
 use Rattle.rules.specs.Word.{Word, isVoid}
 use Rattle.rules.specs.Entry.{Entry}
-use Rattle.rules.specs.Lay.{holds, insert}
+use Rattle.rules.specs.Lay.{holds, insert, smaller, markOf}
 use Rattle.rules.specs.Put.{layRun}
-use Rattle.rules.specs.Phase.{smaller, markOf}
 use Rattle.theory.specs.Run.{Run}
 use Rattle.theory.specs.Insert.{insert-asc, insert-length, asc-weaken}
 use Rattle.theory.specs.Motion.{fillAt, finish}

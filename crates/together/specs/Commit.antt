@@ -14,18 +14,18 @@ use borrow.Author.Tests.{eqb-true, eqb-false}
 use Rattle.rules.specs.declared.Shape.{Shape}
 use Rattle.rules.specs.declared.Task.{Task}
 use Rattle.rules.specs.Lists.{any}
-use Rattle.rules.specs.Word.{Word, zeroWord, lockWord, filledWith, isVoid, isLock, isZero}
+use Rattle.rules.specs.Word.{Word, zeroWord, lockWord, filledWith, isVoid, isLock, isZero, aloneWord}
 use Rattle.rules.specs.Shape.{homes, remainders, keys, places, rightGuard}
 use Rattle.rules.specs.Entry.{Entry, split, sameEntry}
 use Rattle.rules.specs.Table.{at, occupiedPlaces, leftGap, rightGap, between, virginPlaces, deal, entriesBetween}
 use Rattle.rules.specs.Table.{clusterEntries}
 use Rattle.rules.specs.Room.{place, full, roomFor}
-use Rattle.rules.specs.Lay.{holds, insert}
+use Rattle.rules.specs.Lay.{holds, insert, smaller, markOf}
 use Rattle.rules.specs.Put.{addAt, enlargedFrom, Outcome, keeps, putIn, wordsAfter}
 use Rattle.rules.specs.Record.{homePlaceOf, toPhase, withLeft, withAnswer}
 use Rattle.rules.specs.Give.{taskAt}
 use Rattle.rules.specs.Phase as phase
-use Rattle.rules.specs.Phase.{to, unsound, aloneWord, smaller, markOf, movesOn}
+use Rattle.rules.specs.Phase.{to, unsound, movesOn}
 use Rattle.table_words.specs.Split.{split-in-shape}
 use Rattle.theory.specs.Run.{unlock}
 use Rattle.theory.specs.Dealt.{or-left, or-right}

@@ -17,8 +17,8 @@ use Rattle.rules.specs.Word.{Word}
 use Rattle.rules.specs.Shape.{keys, places, rightGuard}
 use Rattle.rules.specs.Entry.{Entry, split, sameHome, precedes}
 use Rattle.rules.specs.Table.{between, due, deal, virginPlaces, entriesBetween}
+use Rattle.rules.specs.Lay.{smaller, markOf}
 use Rattle.rules.specs.Record.{homePlaceOf, atRest, fits}
-use Rattle.rules.specs.Phase.{smaller, markOf}
 use Rattle.theory.specs.Dealt.{or-left, or-right}
 use Rattle.theory.specs.Gaps as gaps
 use Rattle.theory.specs.Gaps.{Side, HomePlace}

@@ -15,10 +15,9 @@ use Rattle.rules.specs.Word.{Word, lockWord}
 use Rattle.rules.specs.Shape.{keys, rightGuard}
 use Rattle.rules.specs.Entry.{Entry, split}
 use Rattle.rules.specs.Table.{at, occupiedPlaces, entriesBetween}
-use Rattle.rules.specs.Lay.{holds}
+use Rattle.rules.specs.Lay.{holds, smaller, markOf}
 use Rattle.rules.specs.Record.{homePlaceOf}
 use Rattle.rules.specs.Give.{taskAt}
-use Rattle.rules.specs.Phase.{smaller, markOf}
 use Rattle.theory.specs.Run.{unlock}
 use Rattle.theory.specs.Gaps as gaps
 use Rattle.theory.specs.Gaps.{Side, HomePlace, other}

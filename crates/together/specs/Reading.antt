@@ -15,11 +15,11 @@ use Rattle.rules.specs.Word.{Word, lockWord, isVoid, isLock}
 use Rattle.rules.specs.Shape.{homes, remainders, keys, rightGuard}
 use Rattle.rules.specs.Entry.{Entry, split}
 use Rattle.rules.specs.Table.{at, occupiedPlaces, entriesBetween}
-use Rattle.rules.specs.Lay.{holds}
+use Rattle.rules.specs.Lay.{holds, smaller, markOf}
 use Rattle.rules.specs.Record.{homePlaceOf, toPhase, withHand, withGoal, withAnswer}
 use Rattle.rules.specs.Give.{taskAt}
 use Rattle.rules.specs.Phase as phase
-use Rattle.rules.specs.Phase.{to, smaller, markOf, readable, handOf, goalOf, readEntries}
+use Rattle.rules.specs.Phase.{to, readable, handOf, goalOf, readEntries}
 use Rattle.theory.specs.Dealt.{and-both, and-left, and-right}
 use Rattle.theory.specs.Gaps as gaps
 use Rattle.theory.specs.Gaps.{AllTaken}

@@ -14,9 +14,8 @@ use Rattle.rules.specs.Word.{Word, zeroWord, lockWord}
 use Rattle.rules.specs.Shape.{places, rightGuard}
 use Rattle.rules.specs.Entry.{Entry, split}
 use Rattle.rules.specs.Table.{at, between, entriesBetween, virginPlaces, deal}
-use Rattle.rules.specs.Lay.{holds}
+use Rattle.rules.specs.Lay.{holds, smaller, markOf}
 use Rattle.rules.specs.Record.{homePlaceOf}
-use Rattle.rules.specs.Phase.{smaller, markOf}
 use Rattle.theory.specs.Run.{unlock}
 use Rattle.theory.specs.Dealt.{word-path}
 use Rattle.theory.specs.Gaps as gaps
