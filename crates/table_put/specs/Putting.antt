@@ -9,7 +9,6 @@ use mathlib.Core.List.{List, [], _∷_}
 use native.Mathlib.Omega.{arith}
 use lib.ListN.{length, getD, set}
 use lib.Seq.{length-slice}
-use borrow.Author.Tests.{eq-eqb, ne-eqb}
 use Rattle.rules.specs.declared.Shape.{Shape}
 use Rattle.rules.specs.Lists.{any}
 use Rattle.rules.specs.Word.{Word, isVoid, aloneWord}
@@ -28,6 +27,7 @@ use Rattle.table_words.specs.Split.{InShape}
 use Rattle.table_words.specs.Layout.{same-bytes, bytes-are}
 use Rattle.table_words.specs.declared.place.Place.{Place}
 use Rattle.theory.specs.Gaps as gaps
+use Rattle.theory.specs.Gaps.{picks-left, picks-right, picks-neither, picked-only}
 use Rattle.theory.specs.Places.{occupied-at}
 use Rattle.theory.specs.Motion.{fillAt, finish}
 use Rattle.theory.specs.Moving.{Addable, add-moves, room-alone, add-alone}
@@ -194,7 +194,7 @@ module _ {sh : Shape} {ws : List Word} {e : Entry} {l : Place} {read : Read} (g 
       (l .0 ≡ 0 → ⊥) → addBeside sh ws e ≡ writes (says 2) (broughtTo ws e read (l .0) (l .0 + read .smaller))
   unfolding roomBeside enlargedFrom readOf
   added-left far =
-      rw (← g .left, ne-eqb (l .0) 0 far, g .read-is)
+      rw (← g .left, picked-only sh (l .0) _ (picks-left far), g .read-is)
       (ap (writes (says 2)) (moved gaps.left (l .0) (l .0) (g .left) (omega (arith, g .left))))
 
   module _ (r : Place) (right : r .0 ≡ rightGap (occupiedPlaces ws) (e .homePlace)) where
@@ -203,14 +203,14 @@ module _ {sh : Shape} {ws : List Word} {e : Entry} {l : Place} {read : Read} (g 
         addBeside sh ws e ≡ writes (says 2) (broughtTo ws e read (r .0) (1 + read .smaller))
     unfolding roomBeside enlargedFrom readOf
     added-right near far =
-        rw (← g .left, ← right, eq-eqb (l .0) 0 near, ne-eqb (r .0) (rightGuard sh) far, g .read-is)
+        rw (← g .left, ← right, picked-only sh (l .0) (r .0) (picks-right near far), g .read-is)
         (ap
         (writes (says 2))
         (moved gaps.right (r .0) 1 right (omega (arith, right, g .left, g .inside .after, g .inside .before))))
 
     pub added-none : l .0 ≡ 0 → r .0 ≡ rightGuard sh → addBeside sh ws e ≡ keeps (refuses 8)
     unfolding roomBeside
-    added-none near far = rw (← g .left, ← right, eq-eqb (l .0) 0 near, eq-eqb (r .0) (rightGuard sh) far)
+    added-none near far = rw (← g .left, ← right, picked-only sh (l .0) (r .0) (picks-neither near far))
 
 -- a read of the cluster that does not find the key makes it ready
 pub ready :

@@ -23,7 +23,7 @@ use Rattle.rules.specs.Step.{ofPhase, stepOf, Lent, step}
 unfoldable stepsOpened : Bool
 unfolding opened isZero isLock homePlaceOf busy atRest fitsHand fitsBusy fits given goodTask giveTo give phase.home
     phase.lookLeft phase.lookRight phase.lockLeft phase.lockRight phase.backOff phase.readable smaller
-    markOf phase.handOf phase.goalOf phase.readEntries phase.read phase.movesOn phase.fillHand phase.neighbour
+    markOf phase.readEntries phase.read phase.movesOn phase.fillHand phase.neighbour
     phase.exchange phase.move phase.setChange phase.setVirgin phase.marked phase.mark phase.freeLeft
     phase.freeRight ofPhase stepOf step
 stepsOpened = true

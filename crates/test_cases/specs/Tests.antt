@@ -21,7 +21,7 @@ use Rattle.rules.specs.Entry.{sameHome, sameEntry, precedes}
 use Rattle.rules.specs.Table.{occupiedPlaces, leftGap, lead, rightGap, cluster, endsInChange, rising, soundRun, virginPlaces}
 use Rattle.rules.specs.Table.{deal, entriesBetween, clusterEntries, entryAt, entriesFrom, entries, list}
 use Rattle.rules.specs.Table.{soundAt, soundFrom, guardsVoid, sound, locked}
-use Rattle.rules.specs.Room.{Room, place, full, roomBeside, roomFor}
+use Rattle.rules.specs.Room.{Room, place, full, whichEnd, roomBeside, roomFor}
 use Rattle.rules.specs.Lay.{holds, insert, ascend, hasHome, endsGroup, lay}
 use Rattle.rules.specs.Answer.{Answer, says, refuses, Leaves, leaves}
 use Rattle.rules.specs.Find.{around, soundAround, lockedAround, findIn, find}
@@ -35,7 +35,7 @@ unfoldable pub opened : Bool
 unfolding count all any wordOf numberOf isVoid wordsOf bytesOf inRange homes remainders keys places rightGuard
     fitsLength goodTable placeOfHome homeOfPlace homeOf remainderOf split join sameHome sameEntry precedes
     occupiedPlaces leftGap lead rightGap cluster endsInChange rising soundRun virginPlaces deal entriesBetween
-    clusterEntries entryAt entriesFrom entries list soundAt soundFrom guardsVoid sound locked roomBeside
+    clusterEntries entryAt entriesFrom entries list soundAt soundFrom guardsVoid sound locked whichEnd roomBeside
     roomFor holds insert ascend hasHome endsGroup lay around soundAround lockedAround findIn find layRun
     enlargedFrom addAt putIn put zeros puts tooMany buildIn build atFront listIn listing figure fill
     flatMap tablesOver smallTables listsOver sublists plainTables

@@ -22,7 +22,7 @@ use Rattle.rules.specs.Table.{clusterEntries}
 use Rattle.rules.specs.Room.{place, full, roomFor}
 use Rattle.rules.specs.Lay.{holds, insert, smaller, markOf}
 use Rattle.rules.specs.Put.{addAt, enlargedFrom, Outcome, keeps, putIn, wordsAfter}
-use Rattle.rules.specs.Record.{homePlaceOf, toPhase, withLeft, withAnswer}
+use Rattle.rules.specs.Record.{homePlaceOf, toPhase, withLeft, withAnswer, again}
 use Rattle.rules.specs.Give.{taskAt}
 use Rattle.rules.specs.Phase as phase
 use Rattle.rules.specs.Phase.{to, unsound, movesOn}
@@ -796,7 +796,7 @@ module _ {sh : Shape} {ws : List Word} {ts : List Task} {laid : List Word} {show
               (λ (w : Word).
               cond
               (w .lock)
-              (to t₁ ws)
+              (to (again t₁) ws)
               (cond
               (isZero w)
               (to next grown)

@@ -18,7 +18,7 @@ use Rattle.rules.specs.Shape.{homes, remainders, keys, places, rightGuard}
 use Rattle.rules.specs.Entry.{Entry, split}
 use Rattle.rules.specs.Table.{at, occupiedPlaces}
 use Rattle.rules.specs.Lay.{holds, insert}
-use Rattle.rules.specs.Record.{homePlaceOf, within, atRest, toPhase, withLeft, withRight}
+use Rattle.rules.specs.Record.{homePlaceOf, within, atRest, toPhase, withLeft, withRight, again}
 use Rattle.rules.specs.Give.{taskAt}
 use Rattle.rules.specs.Phase as phase
 use Rattle.rules.specs.Phase.{Step, to}
@@ -259,17 +259,17 @@ module _ {sh : Shape} {ws : List Word} {ts : List Task} {laid : List Word} {show
     unfolding phase.home
     walk-stay p k locked =
         record {
-          next = t;
+          next = again t;
           words = ws;
           laid-after = laid;
           shown-after = shown;
           step = step-by 1 (omega arith) (omega arith) p (rw locked);
-          shows = free-step t (omega arith) (omega arith) (at-home p k);
+          shows = free-step (again t) (omega arith) (omega arith) (at-home refl k);
           same-key = refl;
           ends = λ e. absurd (omega arith);
           begun = omega arith;
           full = λ h. inl h;
-          effect = keeps refl;
+          effect = quiet-low (again t) (omega arith) (omega arith);
         }
 
     -- an occupied, unlocked home: the look to the left begins
@@ -456,17 +456,17 @@ module _ {sh : Shape} {ws : List Word} {ts : List Task} {laid : List Word} {show
     unfolding phase.lockLeft
     walk-again p k other =
         record {
-          next = toPhase 1 t;
+          next = again t;
           words = ws;
           laid-after = laid;
           shown-after = shown;
           step = step-by 4 (omega arith) (omega arith) p (rw other);
-          shows = free-step (toPhase 1 t) (omega arith) (omega arith) (at-home refl k);
+          shows = free-step (again t) (omega arith) (omega arith) (at-home refl k);
           same-key = refl;
           ends = λ e. absurd (omega arith);
           begun = omega arith;
           full = λ h. inl h;
-          effect = quiet-low (toPhase 1 t) (omega arith) (omega arith);
+          effect = quiet-low (again t) (omega arith) (omega arith);
         }
 
     -- a place at or before the right guard is in the table
@@ -698,7 +698,7 @@ module _ {sh : Shape} {ws : List Word} {ts : List Task} {laid : List Word} {show
     unfolding phase.backOff relocked
     walk-back p k x =
         record {
-          next = toPhase 1 t;
+          next = again t;
           words = relocked ws (t .left) false inside;
           laid-after = laid;
           shown-after = shown;
@@ -706,7 +706,7 @@ module _ {sh : Shape} {ws : List Word} {ts : List Task} {laid : List Word} {show
           shows =
               relock
               i
-              (toPhase 1 t)
+              (again t)
               low
               inv
               (t .left)
@@ -717,7 +717,7 @@ module _ {sh : Shape} {ws : List Word} {ts : List Task} {laid : List Word} {show
               (λ u a s.
               record {
                 owners = λ q o v. owns-none q (omega arith) o;
-                stretches = λ (r : Reserves (toPhase 1 t)) v q m n. absurd (omega (arith, r .from-7));
+                stretches = λ (r : Reserves (again t)) v q m n. absurd (omega (arith, r .from-7));
               })
               (λ q n o. absurd (gone q n o))
               (λ e. absurd (false≢true e))
@@ -726,7 +726,7 @@ module _ {sh : Shape} {ws : List Word} {ts : List Task} {laid : List Word} {show
           ends = λ e. absurd (omega arith);
           begun = omega arith;
           full = λ h. inl h;
-          effect = quiet-low (toPhase 1 t) (omega arith) (omega arith);
+          effect = quiet-low (again t) (omega arith) (omega arith);
         }
       where
         inside : t .left < length ws
