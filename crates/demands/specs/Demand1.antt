@@ -13,7 +13,7 @@ use lib.Dec.{ltb, leb}
 use native.Mathlib.Omega.{arith}
 use Rattle.rules.specs.declared.Shape.{Shape}
 use Rattle.rules.specs.declared.Task.{Task}
-use Rattle.rules.specs.Lists.{all}
+use Rattle.rules.specs.Lists.{all, atFront}
 use Rattle.rules.specs.Word.{Word}
 use Rattle.rules.specs.Bytes.{wordsOf, bytesOf}
 use Rattle.rules.specs.Shape.{inRange, keys, goodTable}
@@ -26,10 +26,8 @@ use Rattle.rules.specs.Find.{soundAround, lockedAround}
 use Rattle.rules.specs.Put.{addAt, Outcome, keeps, writes, addTo, putIn, bytesAfter, put}
 use Rattle.rules.specs.Build.{zeros, puts, tooMany, buildIn, build}
 use Rattle.rules.specs.Listing.{listIn, listing}
-use Rattle.rules.specs.Lists.{atFront}
-use Rattle.rules.specs.Record.{busy, atRest, fits}
+use Rattle.rules.specs.Record.{busy, atRest, fits, noTask, taskAt, goodTask}
 use Rattle.rules.specs.Give.{given, giveTo, storedAt, give}
-use Rattle.rules.specs.Record.{noTask, taskAt, goodTask}
 use Rattle.rules.specs.Phase.{Step, to, unsound}
 use Rattle.rules.specs.Step.{Stepped, steps, refused, ofPhase, orUnsound, stepOf, lentAfter, step}
 

@@ -33,8 +33,8 @@ use Rattle.theory.specs.Building.{State, state-unique, place≢full, added-stat
 use Rattle.theory.specs.Adding.{Added}
 use Rattle.theory.specs.Keys.{home-place, table-inside, asc-in-shape, keys-ascend, Ascending, listed, listed-holds}
 use Rattle.demands.specs.Terms.{SoundTable, PlainTable, listOf, Adds}
-use Rattle.demands.specs.Tables.{in-range-of, low-of, size-of, table-of, state-of}
-use Rattle.demands.specs.Tables.{words-back, plain-of, entries-back}
+use Rattle.demands.specs.Tables.{in-range-of, low-of, size-of, table-of, state-of, words-back, plain-of}
+use Rattle.demands.specs.Tables.{entries-back}
 
 pub home-of-key : (sh : Shape) (key : ℕ) → key < keys sh → HomePlace sh (split sh key .homePlace)
 home-of-key sh key lt = home-place (split-in-shape sh key lt)

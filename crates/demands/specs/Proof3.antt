@@ -31,10 +31,10 @@ use Rattle.theory.specs.Insert.{Within, ascend-asc, ascend-same, holds-ascend, 
 use Rattle.theory.specs.Seen.{Right, right-end, right-more, Table, table}
 use Rattle.theory.specs.Putting.{Puts, found, inserted, overflow}
 use Rattle.theory.specs.Building.{Roomy, State, Inside, after-put, added-state, puts-ascend, Left, puts-state}
-use Rattle.theory.specs.Keys.{table-inside, within-in-shape, split-within, Ascending, ascending-none, ascending-next, listed}
+use Rattle.theory.specs.Keys.{table-inside, within-in-shape, split-within, Ascending, ascending-none, ascending-next}
+use Rattle.theory.specs.Keys.{listed}
 use Rattle.demands.specs.Terms.{PlainTable, listOf, InKeys, entriesOf, distinct, putAll, left-by, Builds}
-use Rattle.demands.specs.Tables.{in-range-of, low-of, state-of}
-use Rattle.demands.specs.Tables.{words-back, plain-of, entries-back}
+use Rattle.demands.specs.Tables.{in-range-of, low-of, state-of, words-back, plain-of, entries-back}
 use Rattle.demands.specs.Proof2.{split-keys, same-split, in-shape, ascending-list, listed-here, cases, put-by}
 
 -- ---- the table that is all zero

@@ -8,8 +8,8 @@ use lib.ListN.{length}
 use lib.Dec.{leb, eqb}
 use borrow.Author.Tests.{le-leb, lt-leb, eq-eqb, ne-eqb}
 use Rattle.rules.specs.declared.Refusal.{Refusal}
-use Rattle.rules.specs.declared.Refusal.the-variants.{BadShape, BadKey, BadTask, Busy, AtRest, Unsound, Locked}
-use Rattle.rules.specs.declared.Refusal.the-variants.{Full, TooFewSlots}
+use Rattle.rules.specs.declared.Refusal.the-variants.{BadShape, BadKey, BadTask, Busy, AtRest, Unsound, Locked, Full}
+use Rattle.rules.specs.declared.Refusal.the-variants.{TooFewSlots}
 use Rattle.rules.specs.Answer.{numberOfRefusal}
 use Rattle.rules.specs.Record.{within}
 use Rattle.frame_rules.specs.declared.Run.{Run}

@@ -20,7 +20,7 @@ use Rattle.demands.specs.Terms.{PlainTable, InKeys, listOf, distinct, putAll}
 use Rattle.demands.specs.Demand2.{list-ascends}
 use Rattle.frame_rules.specs.declared.First.{First}
 use Rattle.frame_rules.specs.declared.Stage.{Stage}
-use Rattle.frame_rules.specs.declared.Stage.the-variants.{Among, Ended}
+use Rattle.frame_rules.specs.declared.Stage.the-variants.{Among}
 use Rattle.frame_rules.specs.Digits.{wordDigits}
 use Rattle.frame_rules.specs.Lines.{inLimits, goodLine}
 use Rattle.frame_rules.specs.Rounds.{Floor, start, allAnswered, rounds, play}

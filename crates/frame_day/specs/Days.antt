@@ -17,11 +17,11 @@ use Rattle.frame_rules.specs.declared.Stage.the-variants.{AtFirst, Among, Ended
 use Rattle.frame_rules.specs.Digits.{isDigit, digitsOf}
 use Rattle.frame_rules.specs.Lines.{firstOf, goodFirst, keysOf, goodLine}
 use Rattle.frame_rules.specs.Rounds.{Floor, allAnswered, play}
-use Rattle.frame_rules.specs.Frame.{Day, dawn, usedPart, withUsed, After, after, printed}
-use Rattle.frame_rules.specs.Frame.{error, firstLine, playedLine, frameLine, lineAt, lineIn}
+use Rattle.frame_rules.specs.Frame.{Day, dawn, usedPart, withUsed, After, after, printed, error, firstLine, playedLine}
+use Rattle.frame_rules.specs.Frame.{frameLine, lineAt, lineIn}
 use Rattle.together.specs.Machine.{Said}
-use Rattle.frame_day.specs.Terms.{paired, Follows, dayAfter, history}
-use Rattle.frame_day.specs.Terms.{playedHistory, frameHistory, historyAt, lineHistory}
+use Rattle.frame_day.specs.Terms.{paired, Follows, dayAfter, history, playedHistory, frameHistory, historyAt}
+use Rattle.frame_day.specs.Terms.{lineHistory}
 use Rattle.frame_day.specs.Moments.{play-follows}
 use Rattle.frame_day.specs.Zero.{in-limits}
 use Rattle.frame_day.specs.Kept.{Kept, zeros-kept, kept-line}

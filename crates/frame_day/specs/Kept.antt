@@ -29,7 +29,6 @@ use Rattle.demands.specs.Proof2.{ascending-list}
 use Rattle.demands.specs.Proof3.{all-both, ascending-keys}
 use Rattle.demands.specs.Demand2.{build-puts, build-any-order}
 use Rattle.frame_rules.specs.declared.First.{First}
-use Rattle.frame_rules.specs.declared.Stage.the-variants.{Among}
 use Rattle.frame_rules.specs.Lines.{inLimits}
 use Rattle.frame_rules.specs.Rounds.{Floor, allAnswered}
 use Rattle.frame_rules.specs.Frame.{used, usedPart, withUsed}
@@ -38,8 +37,8 @@ use Rattle.together.specs.Demand3.{wasInserted}
 use Rattle.frame_day.specs.Terms.{paired, keysIn, insertedIn, Follows}
 use Rattle.frame_day.specs.Counting.{paired-parts}
 use Rattle.frame_day.specs.Line.{line-plain, line-known, line-lists, line-once, line-new}
-use Rattle.frame_day.specs.Room.{listed-append, distinct-fewer, inserted-listed, line-none-full, line-every-listed}
-use Rattle.frame_day.specs.Room.{line-bytes, inserted-times, inserted-in}
+use Rattle.frame_day.specs.Room.{listed-append, distinct-fewer, inserted-listed, line-none-full}
+use Rattle.frame_day.specs.Room.{line-every-listed, line-bytes, inserted-times, inserted-in}
 use Rattle.frame_day.specs.Zero.{InLimits, in-limits, zeros-plain, zeros-list, used-zeros}
 
 -- a table that had room for every accepted key

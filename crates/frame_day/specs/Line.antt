@@ -12,9 +12,7 @@ use lib.Dec.{eqb, leb}
 use borrow.Author.Tests.{eqb-true, eq-eqb, leb-true, le-leb, not-false}
 use Rattle.rules.specs.declared.Task.{Task}
 use Rattle.rules.specs.Lists.{bitOf, count, all}
-use Rattle.rules.specs.Record.{within, atRest}
-use Rattle.rules.specs.Record.{noTask}
-use Rattle.rules.specs.Record.{noTask}
+use Rattle.rules.specs.Record.{within, atRest, noTask}
 use Rattle.table_words.specs.Tests.{eqb-sym}
 use Rattle.theory.specs.Every as every
 use Rattle.theory.specs.Every.{All}
@@ -27,8 +25,7 @@ use Rattle.together.specs.Machine.{Said, World, begin, course, quiet, timesGive
 use Rattle.together.specs.Demand3 as demand-3
 use Rattle.together.specs.Demand3.{wasInserted}
 use Rattle.frame_day.specs.Terms.{paired, answeredSo, Follows}
-use Rattle.frame_day.specs.Counting.{count-also, count-same, count-none, none-counted}
-use Rattle.frame_day.specs.Counting.{count-map, paired-parts}
+use Rattle.frame_day.specs.Counting.{count-also, count-same, count-none, none-counted, count-map, paired-parts}
 use Rattle.frame_day.specs.Moments.{idle-tasks}
 
 -- ---- lists that have as many of every kind

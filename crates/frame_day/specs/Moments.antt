@@ -15,12 +15,8 @@ use Rattle.rules.specs.Lists.{count, all}
 use Rattle.rules.specs.Bytes.{wordsOf, bytesOf}
 use Rattle.rules.specs.Shape.{keys}
 use Rattle.rules.specs.Answer.{says, leaves}
-use Rattle.rules.specs.Record.{within, busy, atRest, fitsBusy, fits}
+use Rattle.rules.specs.Record.{busy, atRest, noTask, taskAt, goodTask}
 use Rattle.rules.specs.Give.{given, giveTo, give}
-use Rattle.rules.specs.Record.{noTask, taskAt, goodTask}
-use Rattle.rules.specs.Record.{busy, atRest}
-use Rattle.rules.specs.Give.{given, giveTo, give}
-use Rattle.rules.specs.Record.{noTask, taskAt, goodTask}
 use Rattle.rules.specs.Step.{lentAfter, step}
 use Rattle.table_words.specs.Range.{good-table, remainders-high, range-in}
 use Rattle.table_words.specs.All.{all-at}
@@ -30,8 +26,7 @@ use Rattle.demands.specs.Terms.{PlainTable, InKeys}
 use Rattle.frame_rules.specs.declared.First.{First}
 use Rattle.frame_rules.specs.Rounds as rounds-of
 use Rattle.frame_rules.specs.Rounds.{Floor, start, turn, turns, round, rounds, allAnswered, limit, play}
-use Rattle.together.specs.Machine.{Action, gives, steps, Said, World, begin, afterGive, afterStep, act, course}
-use Rattle.together.specs.Machine.{quiet}
+use Rattle.together.specs.Machine.{Action, gives, steps, Said, World, begin, afterGive, afterStep, act, course, quiet}
 use Rattle.together.specs.Update.{task-same}
 use Rattle.together.specs.Fitting.{stage-fits}
 use Rattle.together.specs.Walk.{Walked, Answered, says-full, says-shown}

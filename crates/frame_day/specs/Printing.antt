@@ -12,8 +12,8 @@ use Rattle.frame_rules.specs.declared.Stage.the-variants.{AtFirst, Among, Ended
 use Rattle.frame_rules.specs.Digits.{digitsOf}
 use Rattle.frame_rules.specs.Lines.{keysOf, goodLine}
 use Rattle.frame_rules.specs.Rounds.{Floor, allAnswered, play}
-use Rattle.frame_rules.specs.Frame.{Day, dawn, usedPart, withUsed, After, after, printed}
-use Rattle.frame_rules.specs.Frame.{error, playedLine, frameLine, lineAt, lineIn, outputFrom, atEnd}
+use Rattle.frame_rules.specs.Frame.{Day, dawn, usedPart, withUsed, After, after, printed, error, playedLine, frameLine}
+use Rattle.frame_rules.specs.Frame.{lineAt, lineIn, outputFrom, atEnd}
 use Rattle.together.specs.Machine.{Said}
 use Rattle.frame_day.specs.Terms.{paired, playedHistory, frameHistory, historyAt, lineHistory, shownAnswers}
 use Rattle.frame_day.specs.Terms.{dayAfter, printedBy}

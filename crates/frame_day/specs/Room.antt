@@ -17,7 +17,6 @@ use Rattle.rules.specs.Shape.{homes, remainders, keys}
 use Rattle.rules.specs.Entry.{Entry, join}
 use Rattle.rules.specs.Lay.{holds, ascend}
 use Rattle.rules.specs.Record.{noTask}
-use Rattle.rules.specs.Record.{noTask}
 use Rattle.table_words.specs.Tests.{eqb-sym}
 use Rattle.theory.specs.Every.{All}
 use Rattle.theory.specs.Insert.{ascend-asc, holds-ascend}

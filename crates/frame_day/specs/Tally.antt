@@ -13,11 +13,8 @@ use lib.Dec.{eqb}
 use borrow.Author.Tests.{eqb-true, le-leb}
 use Rattle.rules.specs.declared.Task.{Task}
 use Rattle.rules.specs.Lists.{bitOf, count}
-use Rattle.rules.specs.Record.{atRest}
+use Rattle.rules.specs.Record.{atRest, noTask, taskAt}
 use Rattle.rules.specs.Give.{given}
-use Rattle.rules.specs.Record.{noTask, taskAt}
-use Rattle.rules.specs.Give.{given}
-use Rattle.rules.specs.Record.{noTask, taskAt}
 use Rattle.table_words.specs.Counts.{count-append}
 use Rattle.frame_rules.specs.Rounds.{Floor, start}
 use Rattle.theory.specs.Dealt.{or-right}

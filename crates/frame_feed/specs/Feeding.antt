@@ -15,8 +15,8 @@ use Rattle.rules.specs.declared.Refusal.{Refusal}
 use Rattle.rules.specs.Answer.{doneSays, numberOfRefusal}
 use Rattle.frame_rules.specs.declared.Run.{Run}
 use Rattle.frame_rules.specs.Frame.{lineIn}
-use Rattle.frame_rules.specs.Feed.{Buffers, lentBuffers, withHeld, dayOf, refusal, lineLength, heldAfter, lineAfter, heldLine}
-use Rattle.frame_rules.specs.Feed.{Feeding, feeds, refused, closes, heldOrClosed, feedGood, feed}
+use Rattle.frame_rules.specs.Feed.{Buffers, lentBuffers, withHeld, dayOf, refusal, lineLength, heldAfter, lineAfter}
+use Rattle.frame_rules.specs.Feed.{heldLine, Feeding, feeds, refused, closes, heldOrClosed, feedGood, feed}
 use Rattle.frame_reader.specs.Line.{line-inside, end-met, line-is}
 use Rattle.frame_pieces.specs.Feeding.{InOrder, accepted, not-refused}
 use Rattle.frame_run.specs.declared.close.Closed.{Closed}

@@ -15,7 +15,6 @@ use Rattle.rules.specs.Shape.{shapeOf, homes}
 use Rattle.table_words.specs.Range.{InRange}
 use Rattle.rules.specs.Record.{noTask}
 use Rattle.table_words.specs.Clear.{take-replicate}
-use Rattle.rules.specs.Record.{noTask}
 use Rattle.frame_rules.specs.Rounds.{Floor, start, allAnswered, rounds, limit, play}
 use Rattle.frame_rules.specs.Call.{Line, refused, leftAlone, played}
 use Rattle.frame_rounds.specs.declared.round.Desk.{Desk}

@@ -17,9 +17,9 @@ use Rattle.frame_rules.specs.declared.Stage.the-variants.{AtFirst, Among, Ended
 use Rattle.frame_rules.specs.Lines.{First, inLimits}
 use Rattle.frame_rules.specs.Frame as frame
 use Rattle.frame_rules.specs.Frame.{atFirst, among, ended, Day, After, lineIn, atEnd}
-use Rattle.frame_rules.specs.Feed.{Buffers, lentBuffers, firstIn, stageOf, dayOf, runOf, withHeld, ifAmong, refusal, lineLength}
-use Rattle.frame_rules.specs.Feed.{heldAfter, lineAfter, heldLine, atFront, Feeding, feeds, heldOrClosed, feedGood, feed}
-use Rattle.frame_rules.specs.Feed.{finishes, lastLine, finishGood, finish}
+use Rattle.frame_rules.specs.Feed.{Buffers, lentBuffers, firstIn, stageOf, dayOf, runOf, withHeld, ifAmong, refusal}
+use Rattle.frame_rules.specs.Feed.{lineLength, heldAfter, lineAfter, heldLine, atFront, Feeding, feeds, heldOrClosed}
+use Rattle.frame_rules.specs.Feed.{feedGood, feed, finishes, lastLine, finishGood, finish}
 use Rattle.frame_pieces.specs.Limits.{inStage, Fit, line-fits, line-prints, end-prints}
 use Rattle.frame_pieces.specs.Reading.{fromHere, line-length-le, goes-on, line-ends, nothing-left, rest-is-line}
 use Rattle.frame_pieces.specs.Held.{Held, whole, tooLong, none-held, line-length, held-more, held-line}

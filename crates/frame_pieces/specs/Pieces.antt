@@ -13,8 +13,8 @@ use borrow.Author.Tests.{ltb-true, ltb-false}
 use Rattle.frame_rules.specs.declared.Run.{Run}
 use Rattle.frame_rules.specs.Lines.{linesOf}
 use Rattle.frame_rules.specs.Frame.{atFirst, dawn, output}
-use Rattle.frame_rules.specs.Feed.{Buffers, lentBuffers, dayOf, runOf, Feeding, feeds, refused, feed}
-use Rattle.frame_rules.specs.Feed.{Finishing, finishes, refusedToo, finish}
+use Rattle.frame_rules.specs.Feed.{Buffers, lentBuffers, dayOf, runOf, Feeding, feeds, refused, feed, Finishing}
+use Rattle.frame_rules.specs.Feed.{finishes, refusedToo, finish}
 use Rattle.frame_pieces.specs.Limits.{dawn-fits}
 use Rattle.frame_pieces.specs.Reading.{fromHere}
 use Rattle.frame_pieces.specs.Held.{none-held}

@@ -12,18 +12,17 @@ use Rattle.rules.specs.declared.Task.{Task}
 use Rattle.rules.specs.Word.{Word}
 use Rattle.rules.specs.Bytes.{wordsOf}
 use Rattle.rules.specs.Shape.{shapeOf, inRange, keys, places, goodTable}
-use Rattle.rules.specs.Record.{homePlaceOf, atRest}
+use Rattle.rules.specs.Record.{homePlaceOf, atRest, taskAt, goodTask}
 use Rattle.rules.specs.Answer as answer
 use Rattle.rules.specs.Answer.{Leaves, leaves}
 use Rattle.rules.specs.Give.{giveTo, storedAt, give}
-use Rattle.rules.specs.Record.{taskAt, goodTask}
 use Rattle.rules.specs.Phase as phase
 use Rattle.rules.specs.Phase.{Step, to, unsound, exchange, marked, setChange, setVirgin}
 use Rattle.rules.specs.Step.{Lent, Stepped, steps, refused, ofPhase, orUnsound, stepOf, lentAfter, step}
 use Rattle.table_words.specs.Layout.{words-length, bytes-length, change-length, virgin-length}
 use Rattle.table_words.specs.Range.{good-table}
-use Rattle.frame_rules.specs.Rounds.{Floor, start, afterTake, afterStep, turn, turns, round, allAnswered, rounds}
-use Rattle.frame_rules.specs.Rounds.{limit, play}
+use Rattle.frame_rules.specs.Rounds.{Floor, start, afterTake, afterStep, turn, turns, round, allAnswered, rounds, limit}
+use Rattle.frame_rules.specs.Rounds.{play}
 
 -- ---- a phase leaves as many words as there were
 data Sized (n : ℕ) : Step → Type 0 where

@@ -13,9 +13,8 @@ use lib.Seq.{getD-take, take-set-lt, length-take-le}
 use lib.Dec.{eqb}
 use borrow.Author.Tests.{eq-eqb, ne-eqb}
 use Rattle.rules.specs.declared.Task.{Task}
-use Rattle.rules.specs.Record.{noTask, taskAt}
+use Rattle.rules.specs.Record.{noTask, taskAt, atRest}
 use Rattle.rules.specs.Lists.{all}
-use Rattle.rules.specs.Record.{atRest}
 use Rattle.frame_rules.specs.Lines.{keysOf}
 use Rattle.frame_rules.specs.Rounds.{Floor, turn, turns, round, allAnswered, rounds}
 use Rattle.frame_rounds.specs.declared.round.Desk.{Desk}

@@ -14,13 +14,11 @@ use borrow.Author.Tests.{lt-ltb, le-ltb, le-leb, ne-eqb}
 use Rattle.rules.specs.declared.Task.{Task}
 use Rattle.rules.specs.declared.Turn.{Turn}
 use Rattle.rules.specs.declared.Turn.the-variants.{Next, Refused}
-use Rattle.rules.specs.Record.{atRest}
-use Rattle.rules.specs.Answer.{Leaves, leaves}
+use Rattle.rules.specs.Record.{atRest, noTask, taskAt, goodTask}
+use Rattle.rules.specs.Answer.{Leaves, leaves, turnSays}
 use Rattle.rules.specs.Give.{storedAt, give}
-use Rattle.rules.specs.Record.{noTask, taskAt, goodTask}
 use Rattle.rules.specs.Step.{step}
 use Rattle.task_step.specs.Given.{giveOne, give-one}
-use Rattle.rules.specs.Answer.{turnSays}
 use Rattle.task_step.specs.Stepping.{Left, stepSays, stepOne, lentOf, step-one}
 use Rattle.frame_rules.specs.Lines.{keysOf}
 use Rattle.frame_rules.specs.Rounds.{Floor, afterTake, afterStep, turn}

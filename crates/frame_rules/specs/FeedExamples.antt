@@ -6,9 +6,8 @@ use Prim.Native.String.{String}
 use mathlib.Core.Path.{_≡_, refl}
 use mathlib.Core.List.{List, [], _∷_, _++_, map}
 use lib.ListN.{length, take, replicate}
-use Rattle.rules.specs.Lists.{all}
+use Rattle.rules.specs.Lists.{all, atFront}
 use Rattle.rules.specs.Shape.{homes, places}
-use Rattle.rules.specs.Lists.{atFront}
 use Rattle.frame_rules.specs.declared.Run.{Run}
 use Rattle.frame_rules.specs.declared.Stage.{Stage}
 use Rattle.frame_rules.specs.declared.Stage.the-variants.{AtFirst, Among, Ended}
@@ -16,8 +15,8 @@ use Rattle.frame_rules.specs.Digits.{isDigit, worth, numberAfter, number
 use Rattle.frame_rules.specs.Lines.{first, firstOf, shapeInLimits, tasksInLimits, inLimits, goodFirst, goodLine}
 use Rattle.frame_rules.specs.Frame.{used, firstLine, frameLine, lineIn, atEnd}
 use Rattle.frame_rules.specs.Feed.{Buffers, lentBuffers, refusal, lineLength, heldAfter, lineAfter, heldLine}
-use Rattle.frame_rules.specs.Feed.{Feeding, feeds, refused, heldOrClosed, feedGood, feed}
-use Rattle.frame_rules.specs.Feed.{Finishing, finishes, refusedToo, lastLine, finishGood, finish}
+use Rattle.frame_rules.specs.Feed.{Feeding, feeds, refused, heldOrClosed, feedGood, feed, Finishing, finishes}
+use Rattle.frame_rules.specs.Feed.{refusedToo, lastLine, finishGood, finish}
 use Rattle.frame_rules.specs.Examples.{bytes}
 
 -- among frames with shape 1, 2 and three tasks

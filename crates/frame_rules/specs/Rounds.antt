@@ -10,10 +10,9 @@ use Rattle.rules.specs.declared.Shape.{Shape}
 use Rattle.rules.specs.declared.Task.{Task}
 use Rattle.rules.specs.Lists.{all}
 use Rattle.rules.specs.Shape.{places}
-use Rattle.rules.specs.Record.{atRest}
+use Rattle.rules.specs.Record.{atRest, noTask, taskAt}
 use Rattle.rules.specs.Answer.{Leaves, leaves}
 use Rattle.rules.specs.Give.{give}
-use Rattle.rules.specs.Record.{noTask, taskAt}
 use Rattle.rules.specs.Step.{Lent, step}
 use Rattle.frame_rules.specs.declared.First.{First}
 

@@ -20,8 +20,8 @@ use Rattle.frame_rules.specs.declared.Stage.the-variants.{AtFirst, Among, Ended
 use Rattle.frame_rules.specs.Digits.{digitsOf}
 use Rattle.frame_rules.specs.Lines.{First, firstOf, goodFirst, inLimits, keysOf, goodLine}
 use Rattle.frame_rules.specs.Rounds.{Floor, allAnswered, play}
-use Rattle.frame_rules.specs.Frame.{After, after, among, ended, used, printed, error, firstLine, playedLine}
-use Rattle.frame_rules.specs.Frame.{frameLine, lineIn}
+use Rattle.frame_rules.specs.Frame.{After, after, among, ended, used, printed, error, firstLine, playedLine, frameLine}
+use Rattle.frame_rules.specs.Frame.{lineIn}
 use Rattle.frame_rules.specs.Call.{Came, passedOver, answered, refused, Line, leftAlone, played, line}
 use Rattle.frame_rules.specs.Call as call
 use Rattle.frame_rules.specs.Feed.{firstIn, stageOf, runOf, dayOf, heldLine}

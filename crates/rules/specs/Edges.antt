@@ -12,11 +12,10 @@ use Rattle.rules.specs.Shape.{inRange, homes, remainders, keys, places, 
 use Rattle.rules.specs.Entry.{placeOfHome, homeOfPlace, homeOf, remainderOf, split, join, sameHome, sameEntry}
 use Rattle.rules.specs.Entry.{precedes}
 use Rattle.rules.specs.Table.{occupiedPlaces, leftGap, lead, rightGap, cluster, endsInChange, rising, soundRun}
-use Rattle.rules.specs.Table.{virginPlaces}
-use Rattle.rules.specs.Table.{deal, entriesBetween, clusterEntries, entryAt, entriesFrom, entries, list}
-use Rattle.rules.specs.Table.{soundAt, soundFrom, guardsVoid, sound, locked}
-use Rattle.rules.specs.Room.{roomBeside, roomFor}
-use Rattle.rules.specs.Lay.{holds, insert, ascend, hasHome, endsGroup, lay}
+use Rattle.rules.specs.Table.{virginPlaces, deal, entriesBetween, clusterEntries, entryAt, entriesFrom, entries}
+use Rattle.rules.specs.Table.{list, soundAt, soundFrom, guardsVoid, sound, locked}
+use Rattle.rules.specs.Room.{whichEnd, roomBeside, roomFor}
+use Rattle.rules.specs.Lay.{holds, insert, ascend, hasHome, endsGroup, lay, smaller, markOf}
 use Rattle.rules.specs.Answer.{says, refuses, Leaves, leaves}
 use Rattle.rules.specs.Find.{around, soundAround, lockedAround, findIn, find}
 use Rattle.rules.specs.Put.{layRun, enlargedFrom, addAt, putIn, put}
@@ -114,11 +113,11 @@ unfolding tableOf count all any wordOf numberOf isVoid isZero isLock wordsOf byt
     places rightGuard fitsLength goodTable placeOfHome homeOfPlace homeOf remainderOf split join sameHome
     sameEntry precedes occupiedPlaces leftGap lead rightGap cluster endsInChange rising soundRun virginPlaces deal
     entriesBetween clusterEntries entryAt entriesFrom entries list soundAt soundFrom guardsVoid sound locked
-    roomBeside roomFor holds insert ascend hasHome endsGroup lay around soundAround lockedAround findIn find
+    whichEnd roomBeside roomFor holds insert ascend hasHome endsGroup lay around soundAround lockedAround findIn find
     layRun enlargedFrom addAt putIn put zeros puts tooMany buildIn build atFront listIn listing figure fill
     homePlaceOf busy atRest fitsHand fitsBusy fits given goodTask ofPhase stepOf step stepped lone after
     phase.home phase.lookLeft phase.lookRight phase.lockLeft phase.lockRight phase.backOff phase.read
-    phase.fillHand phase.move phase.readable phase.smaller phase.markOf phase.handOf phase.goalOf
+    phase.fillHand phase.move phase.readable smaller markOf
     phase.readEntries phase.mark phase.freeLeft phase.freeRight phase.movesOn phase.neighbour phase.exchange
     phase.setChange phase.setVirgin phase.marked
 edges-hold = refl

@@ -9,14 +9,14 @@ use Rattle.rules.specs.declared.Shape.{Shape}
 use Rattle.rules.specs.Lists.{count, all, any, atFront}
 use Rattle.rules.specs.Word.{wordOf, numberOf, isVoid}
 use Rattle.rules.specs.Bytes.{wordsOf, bytesOf}
-use Rattle.rules.specs.Shape.{shapeOf, inRange, homes, remainders, keys, places, rightGuard, fitsLength, goodTable}
+use Rattle.rules.specs.Shape.{shapeOf, inRange, homes, remainders, keys, places, rightGuard, fitsLength}
+use Rattle.rules.specs.Shape.{goodTable}
 use Rattle.rules.specs.Entry.{placeOfHome, homeOfPlace, homeOf, remainderOf, split, join, sameHome, sameEntry}
 use Rattle.rules.specs.Entry.{precedes}
 use Rattle.rules.specs.Table.{occupiedPlaces, leftGap, lead, rightGap, cluster, endsInChange, rising, soundRun}
-use Rattle.rules.specs.Table.{virginPlaces}
-use Rattle.rules.specs.Table.{deal, entriesBetween, clusterEntries, entryAt, entriesFrom, entries, list}
-use Rattle.rules.specs.Table.{soundAt, soundFrom, guardsVoid, sound, locked}
-use Rattle.rules.specs.Room.{roomBeside, roomFor}
+use Rattle.rules.specs.Table.{virginPlaces, deal, entriesBetween, clusterEntries, entryAt, entriesFrom, entries}
+use Rattle.rules.specs.Table.{list, soundAt, soundFrom, guardsVoid, sound, locked}
+use Rattle.rules.specs.Room.{whichEnd, roomBeside, roomFor}
 use Rattle.rules.specs.Lay.{holds, insert, ascend, hasHome, endsGroup, lay}
 use Rattle.rules.specs.Answer.{says, refuses, Leaves, leaves}
 use Rattle.rules.specs.Find.{around, soundAround, lockedAround, findIn, find}
@@ -94,7 +94,7 @@ pub rows-hold : map (λ (row : Row). row .call) rows ≡ map (λ (row : Row). ro
 unfolding tableOf count all any wordOf numberOf isVoid wordsOf bytesOf inRange homes remainders keys places rightGuard
     fitsLength goodTable placeOfHome homeOfPlace homeOf remainderOf split join sameHome sameEntry precedes
     occupiedPlaces leftGap lead rightGap cluster endsInChange rising soundRun virginPlaces deal entriesBetween
-    clusterEntries entryAt entriesFrom entries list soundAt soundFrom guardsVoid sound locked roomBeside
+    clusterEntries entryAt entriesFrom entries list soundAt soundFrom guardsVoid sound locked whichEnd roomBeside
     roomFor holds insert ascend hasHome endsGroup lay around soundAround lockedAround findIn find layRun
     enlargedFrom addAt putIn put zeros puts tooMany buildIn build atFront listIn listing
 rows-hold = refl

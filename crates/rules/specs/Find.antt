@@ -13,8 +13,8 @@ use Rattle.rules.specs.Word.{Word, isVoid}
 use Rattle.rules.specs.Bytes.{wordsOf}
 use Rattle.rules.specs.Shape.{keys, goodTable}
 use Rattle.rules.specs.Entry.{Entry, split}
-use Rattle.rules.specs.Table.{at, occupiedPlaces, leftGap, rightGap, cluster, soundRun, clusterEntries, guardsVoid}
-use Rattle.rules.specs.Table.{locked}
+use Rattle.rules.specs.Table.{at, occupiedPlaces, leftGap, rightGap, cluster, soundRun, clusterEntries}
+use Rattle.rules.specs.Table.{guardsVoid, locked}
 use Rattle.rules.specs.Lay.{holds}
 use Rattle.rules.specs.Answer.{Answer, says, refuses}
 

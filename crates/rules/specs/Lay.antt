@@ -1,11 +1,11 @@
 -- Keys in ascending order over given places, with virgin at each home that has a key and change at each group's end
--- (01, Where a new key goes).
+-- (01, Where a new key goes). `smaller`, `markOf`: where a new key comes to stand among them, and its mark.
 -- Assumes nothing.
 use Prim.Native.Nat.{ℕ, suc}
-use mathlib.Core.Bool.{Bool, true, false, not, cond}
+use mathlib.Core.Bool.{Bool, true, false, not, cond, _||_}
 use mathlib.Core.List.{List, [], _∷_}
 use lib.Dec.{eqb}
-use Rattle.rules.specs.Lists.{any}
+use Rattle.rules.specs.Lists.{count, all, any}
 use Rattle.rules.specs.Word.{Word, zeroWord}
 use Rattle.rules.specs.Entry.{Entry, sameHome, sameEntry, precedes}
 
@@ -47,3 +47,12 @@ lay whole p (true ∷ os) (e ∷ es) =
       lock = false;
     }
     ∷ lay whole (suc p) os es
+
+-- the number of smaller keys
+unfoldable pub smaller : Entry → List Entry → ℕ
+smaller e es = count (λ (f : Entry). precedes f e) es
+
+-- 2 if the key's group is new, 1 if the key is larger than all of its group, else 0
+unfoldable pub markOf : Entry → List Entry → ℕ
+markOf e es =
+    cond (any (sameHome e) es) (cond (all (λ (f : Entry). not (sameHome e f) || precedes f e) es) 1 0) 2

@@ -3,33 +3,31 @@
 -- place.
 -- Assumes nothing.
 use Prim.Native.Nat.{ℕ, _+_, _-_}
-use mathlib.Core.Bool.{Bool, true, false, not, cond, _&&_, _||_}
+use mathlib.Core.Bool.{Bool, true, false, cond, _&&_}
 use mathlib.Core.List.{List}
 use lib.ListN.{set}
 use lib.Dec.{ltb, eqb}
 use Rattle.rules.specs.declared.Shape.{Shape}
 use Rattle.rules.specs.declared.Task.{Task}
-use Rattle.rules.specs.Lists.{count, all, any}
-use Rattle.rules.specs.Word.{Word, isZero, isLock, withLock, withVirgin, withChange, filledWith, withPayload}
-use Rattle.rules.specs.Shape.{rightGuard}
-use Rattle.rules.specs.Entry.{Entry, split, sameHome, precedes}
+use Rattle.rules.specs.Lists.{all}
+use Rattle.rules.specs.Word.{Word, isZero, isLock, aloneWord, withLock, withVirgin, withChange, filledWith}
+use Rattle.rules.specs.Word.{withPayload}
+use Rattle.rules.specs.Entry.{Entry, split}
 use Rattle.rules.specs.Table.{at, between, soundRun, entriesBetween}
-use Rattle.rules.specs.Lay.{holds}
-use Rattle.rules.specs.Record.{homePlaceOf, toPhase, withLeft, withRight, withHand, withGoal, withAnswer}
+use Rattle.rules.specs.Room.{ToFill, onLeft, onRight, onNeither, whichEnd}
+use Rattle.rules.specs.Lay.{holds, smaller, markOf}
+use Rattle.rules.specs.Record.{homePlaceOf, toPhase, withLeft, withRight, withHand, withGoal, withMark}
+use Rattle.rules.specs.Record.{withAnswer, again}
 
 pub data Step : Type 0 where
   to : Task → List Word → Step
   unsound : Step
 
--- a word with occupied, virgin and change set
-abbrev pub aloneWord : ℕ → Word
-aloneWord x = record { remainder = x; occupied = true; virgin = true; change = true; lock = false }
-
--- 1 home: word locked, stay; word 0, fill it, answer 2, phase 13; occupied, left = H − 1, phase 2; otherwise 6
+-- 1 home: word locked, stay (it begins again); word 0, fill it, answer 2, phase 13; occupied, left = H − 1, phase 2; otherwise 6
 unfoldable pub home : Shape → List Word → Task → Step
 home sh ws t =
     cond (at ws (homePlaceOf sh t) .lock)
-    (to t ws)
+    (to (again t) ws)
     (cond (isZero (at ws (homePlaceOf sh t)))
     (to (toPhase 13 (withAnswer 2 t)) (set ws (homePlaceOf sh t) (aloneWord (split sh (t .key) .remainder))))
     (cond (at ws (homePlaceOf sh t) .occupied) (to (toPhase 2 (withLeft (homePlaceOf sh t - 1) t)) ws) unsound))
@@ -51,7 +49,7 @@ unfoldable pub lockLeft : Shape → List Word → Task → Step
 lockLeft sh ws t =
     cond (isZero (at ws (t .left)))
     (to (toPhase 5 t) (set ws (t .left) (withLock true (at ws (t .left)))))
-    (to (toPhase 1 t) ws)
+    (to (again t) ws)
 
 -- 5: word at right is 0, set its lock, phase 7; else phase 6
 unfoldable pub lockRight : Shape → List Word → Task → Step
@@ -62,7 +60,7 @@ lockRight sh ws t =
 
 -- 6: clear the lock at left, phase 1
 unfoldable pub backOff : Shape → List Word → Task → Step
-backOff sh ws t = to (toPhase 1 t) (set ws (t .left) (withLock false (at ws (t .left))))
+backOff sh ws t = to (again t) (set ws (t .left) (withLock false (at ws (t .left))))
 
 -- left and right exactly the lock bit, the places between occupied and one sound cluster
 unfoldable pub readable : Shape → List Word → Task → Bool
@@ -72,30 +70,23 @@ readable sh ws t =
     && all (λ (w : Word). w .occupied) (between ws (t .left) (t .right))
     && soundRun sh (between ws (t .left) (t .right))
 
--- the number of smaller keys
-unfoldable pub smaller : Entry → List Entry → ℕ
-smaller e es = count (λ (f : Entry). precedes f e) es
+-- the record as it begins to fill: its hand, its goal and its mark
+abbrev pub aimed : ℕ → ℕ → ℕ → Task → Task
+aimed p q k t = toPhase 8 (withHand p (withGoal q (withMark k t)))
 
--- 2 if the key's group is new, 1 if the key is larger than all of its group, else 0
-unfoldable pub markOf : Entry → List Entry → ℕ
-markOf e es =
-    cond (any (sameHome e) es) (cond (all (λ (f : Entry). not (sameHome e f) || precedes f e) es) 1 0) 2
-
--- if left is not 0, hand = left and goal = left + t; if it is, hand = right and goal = t + 1
-unfoldable pub handOf : Task → ℕ
-handOf t = cond (eqb (t .left) 0) (t .right) (t .left)
-
-unfoldable pub goalOf : Task → ℕ → ℕ
-goalOf t n = cond (eqb (t .left) 0) (n + 1) (t .left + n)
+-- by the number of smaller keys, n, and the mark: left is filled, hand = left and goal = left + n; right, hand = right
+-- and goal = n + 1; neither, answer 3
+abbrev pub fillFrom : ToFill → ℕ → ℕ → Task → Task
+fillFrom onLeft n k t = aimed (t .left) (t .left + n) k t
+fillFrom onRight n k t = aimed (t .right) (n + 1) k t
+fillFrom onNeither n k t = toPhase 11 (withAnswer 3 t)
 
 -- what the read step makes of the entries between left and right
 unfoldable pub readEntries : Shape → Task → Entry → List Entry → Task
 readEntries sh t e es =
     cond (holds e es)
     (toPhase 11 (withAnswer 1 t))
-    (cond (eqb (t .left) 0 && eqb (t .right) (rightGuard sh))
-    (toPhase 11 (withAnswer 3 t))
-    (toPhase 8 (withHand (handOf t) (withGoal (goalOf t (smaller e es)) (markOf e es) t))))
+    (fillFrom (whichEnd sh (t .left) (t .right)) (smaller e es) (markOf e es) t)
 
 -- 7 read, writing no word
 unfoldable pub read : Shape → List Word → Task → Step

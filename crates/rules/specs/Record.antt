@@ -120,8 +120,8 @@ withHand p t =
       answer = t .answer;
     }
 
-abbrev pub withGoal : ℕ → ℕ → Task → Task
-withGoal p n t =
+abbrev pub withGoal : ℕ → Task → Task
+withGoal p t =
     record {
       key = t .key;
       phase = t .phase;
@@ -129,6 +129,19 @@ withGoal p n t =
       right = t .right;
       hand = t .hand;
       goal = p;
+      mark = t .mark;
+      answer = t .answer;
+    }
+
+abbrev pub withMark : ℕ → Task → Task
+withMark n t =
+    record {
+      key = t .key;
+      phase = t .phase;
+      left = t .left;
+      right = t .right;
+      hand = t .hand;
+      goal = t .goal;
       mark = n;
       answer = t .answer;
     }
@@ -145,3 +158,7 @@ withAnswer a t =
       mark = t .mark;
       answer = a;
     }
+
+-- a task begins again: back to its home
+abbrev pub again : Task → Task
+again t = toPhase 1 t

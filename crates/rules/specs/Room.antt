@@ -15,12 +15,25 @@ pub data Room : Type 0 where
   place : ℕ → Room
   full : Room
 
--- the first empty place to the left; if that is the left guard, to the right; if that is the right guard, none
+-- the end of a cluster that is filled, by the empty places beside it: the left one; if that is the left guard, the
+-- right one; if that is the right guard, neither
+pub data ToFill : Type 0 where
+  onLeft : ToFill
+  onRight : ToFill
+  onNeither : ToFill
+
+unfoldable pub whichEnd : Shape → ℕ → ℕ → ToFill
+whichEnd sh left right = cond (eqb left 0) (cond (eqb right (rightGuard sh)) onNeither onRight) onLeft
+
+-- the place at that end
+abbrev pub roomAt : ToFill → ℕ → ℕ → Room
+roomAt onLeft left right = place left
+roomAt onRight left right = place right
+roomAt onNeither left right = full
+
 unfoldable pub roomBeside : Shape → List Bool → ℕ → Room
 roomBeside sh os homeAt =
-    cond (eqb (leftGap os homeAt) 0)
-    (cond (eqb (rightGap os homeAt) (rightGuard sh)) full (place (rightGap os homeAt)))
-    (place (leftGap os homeAt))
+    roomAt (whichEnd sh (leftGap os homeAt) (rightGap os homeAt)) (leftGap os homeAt) (rightGap os homeAt)
 
 -- the home's place itself if it is empty
 unfoldable pub roomFor : Shape → List Bool → ℕ → Room

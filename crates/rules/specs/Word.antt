@@ -37,6 +37,10 @@ zeroWord = record { remainder = 0; occupied = false; virgin = false; change = fa
 abbrev pub lockWord : Word
 lockWord = record { remainder = 0; occupied = false; virgin = false; change = false; lock = true }
 
+-- a word with occupied, virgin and change set
+abbrev pub aloneWord : ℕ → Word
+aloneWord x = record { remainder = x; occupied = true; virgin = true; change = true; lock = false }
+
 -- 0, lock bit aside
 unfoldable pub isVoid : Word → Bool
 isVoid w = eqb (w .remainder) 0 && (not (w .occupied) && (not (w .virgin) && not (w .change)))

@@ -14,10 +14,9 @@ use Rattle.rules.specs.Lists.{bitOf, count, all}
 use Rattle.rules.specs.Word.{Word, isVoid}
 use Rattle.rules.specs.Entry.{Entry, join}
 use Rattle.rules.specs.Shape.{remainders, places}
-use Rattle.rules.specs.Table.{endsInChange, soundRun, virginPlaces, front, due, deal}
-use Rattle.rules.specs.Table.{entries, list, sound}
-use Rattle.theory.specs.Dealt.{isChange, isVirgin, isOccupied, isLow, and-left, and-right, entry-path}
-use Rattle.theory.specs.Dealt.{Dealt, dealt-none, dealt-ends, dealt-goes, dealt}
+use Rattle.rules.specs.Table.{endsInChange, soundRun, virginPlaces, front, due, deal, entries, list, sound}
+use Rattle.theory.specs.Dealt.{isChange, isVirgin, isOccupied, isLow, and-left, and-right, entry-path, Dealt}
+use Rattle.theory.specs.Dealt.{dealt-none, dealt-ends, dealt-goes, dealt}
 use Rattle.theory.specs.RunLaws.{virgin-count, virgins-append, run-is-sound, run-occupied, run-entries}
 use Rattle.theory.specs.Places.{void-free}
 use Rattle.theory.specs.Locks.{void-unlock}

@@ -21,8 +21,8 @@ use Rattle.theory.specs.Gaps.{Gap, Guarded, rightGap-is, gap-first, gap-above}
 use Rattle.theory.specs.Gaps as gaps
 use Rattle.theory.specs.Places.{void-free, left-free, occupied-at}
 use Rattle.theory.specs.Cut.{Cut, cut, between-occupied, void-guarded}
-use Rattle.theory.specs.SoundTable.{sound-past, look, sound-seen, sound-rest, origin-seen}
-use Rattle.theory.specs.SoundTable.{sound-is-table, table-guards, nothing-sound}
+use Rattle.theory.specs.SoundTable.{sound-past, look, sound-seen, sound-rest, origin-seen, sound-is-table, table-guards}
+use Rattle.theory.specs.SoundTable.{nothing-sound}
 use Rattle.table_list.specs.Check.{tidy, evenGaps, fine, fine-cluster}
 
 -- two tests that pass together have one value

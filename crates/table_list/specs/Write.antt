@@ -10,13 +10,12 @@ use native.Mathlib.Omega.{arith}
 use lib.ListN.{length, getD, set, take, drop, length-map, length-set, List·getD-map}
 use lib.Seq.{slice, take-length, take-suc, drop-cons, set-at, length-take-le}
 use Rattle.rules.specs.declared.Shape.{Shape}
-use Rattle.rules.specs.Lists.{bitOf}
+use Rattle.rules.specs.Lists.{bitOf, atFront}
 use Rattle.rules.specs.Word.{Word, wordOf, isVoid}
 use Rattle.rules.specs.Bytes.{wordsOf}
 use Rattle.rules.specs.Entry.{Entry, join}
 use Rattle.rules.specs.Shape.{remainders, places}
 use Rattle.rules.specs.Table.{at, entries, list, guardsVoid, sound}
-use Rattle.rules.specs.Lists.{atFront}
 use Rattle.table_words.specs.Range.{InRange, remainders-high}
 use Rattle.table_words.specs.Split.{InShape}
 use Rattle.table_words.specs.Layout.{words-length}

@@ -14,11 +14,10 @@ use table_words::word::with_change;
 ghost use mathlib.Core.Path.{_≡_};
 ghost use Prim.Native.Nat.{_+_, _≤_, _<_};
 ghost use lib.ListN.{length};
-ghost use Rattle.rules.specs.Lists.{bitOf};
+ghost use Rattle.rules.specs.Lists.{bitOf, atFront};
 ghost use Rattle.rules.specs.Word.{wordOf};
 ghost use Rattle.rules.specs.Bytes.{wordsOf};
 ghost use Rattle.rules.specs.Table.{at, list};
-ghost use Rattle.rules.specs.Lists.{atFront};
 ghost use Rattle.table_list.specs.Scan.{keyFrom, homeFrom, Homed};
 ghost use Rattle.table_list.specs.Write.{Listable};
 

@@ -27,7 +27,8 @@ use Rattle.table_words.specs.Range.{InRange, remainders-high}
 use Rattle.table_words.specs.Layout.{bytes-are}
 use Rattle.theory.specs.Dealt.{and-left, and-right}
 use Rattle.demands.specs.Proof3.{all-within}
-use Rattle.table_put.specs.Filling.{Filled, overflows, filled, filledIf, fillWith, fillAll, fill-stops, fill-zeros}
+use Rattle.table_put.specs.Filling.{Filled, overflows, filled, filledIf, fillWith, fillAll, fill-stops}
+use Rattle.table_put.specs.Filling.{fill-zeros}
 
 -- a key in range
 abbrev pub good : Shape → ℕ → Bool

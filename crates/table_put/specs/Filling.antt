@@ -11,8 +11,8 @@ use lib.Dec.{ltb, eqb}
 use borrow.Author.Tests.{ltb-true, ltb-false}
 use Rattle.rules.specs.declared.Shape.{Shape}
 use Rattle.rules.specs.declared.Refusal.{Refusal}
-use Rattle.rules.specs.declared.Refusal.the-variants.{BadShape, BadKey, BadTask, Busy, AtRest}
-use Rattle.rules.specs.declared.Refusal.the-variants.{Unsound, Locked, Full, TooFewSlots}
+use Rattle.rules.specs.declared.Refusal.the-variants.{BadShape, BadKey, BadTask, Busy, AtRest, Unsound, Locked, Full}
+use Rattle.rules.specs.declared.Refusal.the-variants.{TooFewSlots}
 use Rattle.rules.specs.declared.PutAnswer.{PutAnswer}
 use Rattle.rules.specs.declared.PutAnswer.the-variants as put-answer
 use Rattle.rules.specs.Lists.{any}

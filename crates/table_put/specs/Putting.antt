@@ -9,26 +9,25 @@ use mathlib.Core.List.{List}
 use native.Mathlib.Omega.{arith}
 use lib.ListN.{length, getD, set}
 use borrow.Author.Tests.{eq-eqb, ne-eqb}
+use lib.Seq.{length-slice}
 use Rattle.rules.specs.declared.Shape.{Shape}
 use Rattle.rules.specs.Lists.{any}
-use Rattle.rules.specs.Word.{Word, isVoid}
+use Rattle.rules.specs.Word.{Word, isVoid, aloneWord}
 use Rattle.rules.specs.Bytes.{wordsOf}
 use Rattle.rules.specs.Shape.{places, rightGuard}
 use Rattle.rules.specs.Entry.{Entry}
-use Rattle.rules.specs.Table.{at, occupiedPlaces, leftGap, rightGap, guardsVoid}
-use Rattle.rules.specs.Table.{clusterEntries}
+use Rattle.rules.specs.Table.{at, occupiedPlaces, leftGap, rightGap, guardsVoid, clusterEntries}
 use Rattle.rules.specs.Room.{roomBeside, roomFor}
-use Rattle.rules.specs.Lay.{holds}
+use Rattle.rules.specs.Lay.{holds, smaller, markOf}
 use Rattle.rules.specs.Answer.{Answer, says, refuses, Leaves, leaves}
 use Rattle.rules.specs.Find.{soundAround, lockedAround}
 use Rattle.rules.specs.Put.{enlargedFrom, addAt, Outcome, keeps, writes, addTo, putIn, bytesAfter}
-use Rattle.rules.specs.Word.{aloneWord}
-use Rattle.rules.specs.Lay.{smaller, markOf}
 use Rattle.table_words.specs.Range.{InRange, remainders-high}
 use Rattle.table_words.specs.Split.{InShape}
 use Rattle.table_words.specs.Layout.{same-bytes, bytes-are}
 use Rattle.table_words.specs.declared.place.Place.{Place}
 use Rattle.theory.specs.Gaps as gaps
+use Rattle.theory.specs.Gaps.{picks-left, picks-right, picks-neither, picked-only}
 use Rattle.theory.specs.Places.{occupied-at}
 use Rattle.theory.specs.Motion.{fillAt, finish}
 use Rattle.theory.specs.Moving.{Addable, smaller-inside, add-moves, room-alone, add-alone}
@@ -36,8 +35,8 @@ use Rattle.table_read.specs.declared.read.Read.{Read}
 use Rattle.table_read.specs.Read.{readOf}
 use Rattle.table_cluster.specs.Ends.{leftEnd}
 use Rattle.table_cluster.specs.declared.gaps.End.{End}
-use Rattle.table_find.specs.Around.{Open, open-guards, around-barred, alone-sound, alone-locked, alone-entries}
-use Rattle.table_find.specs.Around.{Inside, cluster-inside}
+use Rattle.table_find.specs.Around.{Open, open-guards, around-barred, alone-sound, alone-locked, alone-entries, Inside}
+use Rattle.table_find.specs.Around.{cluster-inside}
 use Rattle.theory.specs.Keys.{home-place}
 
 -- the answer of an outcome with the words that it leaves
@@ -187,7 +186,7 @@ module _ {sh : Shape} {ws : List Word} {e : Entry} {l : Place} {read : Read} (g 
       (l .0 ≡ 0 → ⊥) → addBeside sh ws e ≡ writes (says 2) (broughtTo ws e read (l .0) (l .0 + read .smaller))
   unfolding roomBeside enlargedFrom readOf
   added-left far =
-      rw (← g .left, ne-eqb (l .0) 0 far, g .read-is)
+      rw (← g .left, picked-only sh (l .0) _ (picks-left far), g .read-is)
       (ap (writes (says 2)) (moved gaps.left (l .0) (l .0) (g .left) (omega (arith, g .left))))
 
   module _ (r : Place) (right : r .0 ≡ rightGap (occupiedPlaces ws) (e .homePlace)) where
@@ -196,14 +195,14 @@ module _ {sh : Shape} {ws : List Word} {e : Entry} {l : Place} {read : Read} (g 
         addBeside sh ws e ≡ writes (says 2) (broughtTo ws e read (r .0) (1 + read .smaller))
     unfolding roomBeside enlargedFrom readOf
     added-right near far =
-        rw (← g .left, ← right, eq-eqb (l .0) 0 near, ne-eqb (r .0) (rightGuard sh) far, g .read-is)
+        rw (← g .left, ← right, picked-only sh (l .0) (r .0) (picks-right near far), g .read-is)
         (ap
         (writes (says 2))
         (moved gaps.right (r .0) 1 right (omega (arith, right, g .left, g .inside .after, g .inside .before))))
 
     pub added-none : l .0 ≡ 0 → r .0 ≡ rightGuard sh → addBeside sh ws e ≡ keeps (refuses 8)
     unfolding roomBeside
-    added-none near far = rw (← g .left, ← right, eq-eqb (l .0) 0 near, eq-eqb (r .0) (rightGuard sh) far)
+    added-none near far = rw (← g .left, ← right, picked-only sh (l .0) (r .0) (picks-neither near far))
 
 -- a read of the cluster that does not find the key makes it ready
 pub ready :

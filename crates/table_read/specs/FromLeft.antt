@@ -23,8 +23,8 @@ use Rattle.table_cluster.specs.Run.{run-step, run-end, run-last}
 use Rattle.table_cluster.specs.Homes.{homesFrom, home-passed, home-met, Housed, Owed, housed-owed}
 use Rattle.table_read.specs.Read.{readOf, after, unseen, read-whole}
 use Rattle.table_read.specs.Group.{placesOf, wordsFrom, passed, more, readSeen, groupRead, Below, Above, Passed}
-use Rattle.table_read.specs.Group.{virgins-below, virgins-above, pass-groups, pass-later, read-group}
-use Rattle.table_read.specs.Group.{split-run, passed-front, passed-beyond, passed-left, group-front, group-there}
+use Rattle.table_read.specs.Group.{virgins-below, virgins-above, pass-groups, pass-later, read-group, split-run}
+use Rattle.table_read.specs.Group.{passed-front, passed-beyond, passed-left, group-front, group-there}
 use Rattle.table_read.specs.declared.read.Read.{Read}
 use Rattle.table_cluster.specs.declared.gaps.End.{End}
 

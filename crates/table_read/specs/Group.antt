@@ -19,8 +19,7 @@ use Rattle.rules.specs.Table.{at, virginPlaces, due, deal}
 use Rattle.theory.specs.Dealt.{isChange, ends-counted}
 use Rattle.table_cluster.specs.Run.{run-step, run-end}
 use Rattle.table_cluster.specs.Homes.{Owed, owed-next}
-use Rattle.table_read.specs.Read.{entry, look, look-before, look-beyond, after}
-use Rattle.table_read.specs.Read.{after-step, after-end}
+use Rattle.table_read.specs.Read.{entry, look, look-before, look-beyond, after, after-step, after-end}
 use Rattle.table_read.specs.declared.read.Read.{Read}
 use Rattle.table_read.specs.declared.read.Seen.{Seen}
 

@@ -14,8 +14,7 @@ use Rattle.rules.specs.Lists.{bitOf, count, all, any}
 use Rattle.rules.specs.Bytes.{wordsOf}
 use Rattle.rules.specs.Entry.{Entry, sameHome, sameEntry, precedes}
 use Rattle.rules.specs.Table.{deal, entriesBetween}
-use Rattle.rules.specs.Lay.{holds}
-use Rattle.rules.specs.Lay.{smaller, markOf}
+use Rattle.rules.specs.Lay.{holds, smaller, markOf}
 use Rattle.table_words.specs.Number.{bit-small}
 use Rattle.table_cluster.specs.Homes.{homesFrom}
 use Rattle.table_read.specs.declared.read.Read.{Read}

@@ -8,9 +8,8 @@ use native.Mathlib.Omega.{arith}
 use lib.Dec.{eqb}
 use borrow.Author.Tests.{ne-eqb}
 use Rattle.rules.specs.Lists.{bitOf}
-use Rattle.rules.specs.Word.{Word, wordOf, numberOf, isVoid, isZero, isLock}
-use Rattle.rules.specs.Word.{withLock, withVirgin, withChange, filledWith, withPayload}
-use Rattle.rules.specs.Word.{aloneWord}
+use Rattle.rules.specs.Word.{Word, wordOf, numberOf, isVoid, isZero, isLock, aloneWord, withLock, withVirgin}
+use Rattle.rules.specs.Word.{withChange, filledWith, withPayload}
 use Rattle.table_words.specs.Tests.{same-test}
 use Rattle.table_words.specs.Number.{Small, small, remainder-small, number-of-word, word-of-number, fields}
 

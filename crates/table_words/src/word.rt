@@ -3,9 +3,8 @@ use crate::bit::bit_of;
 ghost use mathlib.Core.Path.{_≡_};
 ghost use mathlib.Core.Bool.{true};
 ghost use Prim.Native.Nat.{_<_};
-ghost use Rattle.rules.specs.Word.{wordOf, isVoid, isZero, isLock};
-ghost use Rattle.rules.specs.Word.{withLock, withVirgin, withChange, filledWith, withPayload};
-ghost use Rattle.rules.specs.Word.{aloneWord};
+ghost use Rattle.rules.specs.Word.{wordOf, isVoid, isZero, isLock, withLock, withVirgin, withChange, filledWith};
+ghost use Rattle.rules.specs.Word.{withPayload, aloneWord};
 
 pub fn remainder(w: u16) -> u16
     ensures { λ x. ⌜ x ≡ wordOf w .remainder ⌝ }

@@ -15,12 +15,11 @@ use Rattle.rules.specs.declared.Task.{Task}
 use Rattle.rules.specs.declared.Turn.{Turn}
 use Rattle.rules.specs.declared.Turn.the-variants.{Next, Refused}
 use Rattle.rules.specs.Shape.{inRange, keys, goodTable}
-use Rattle.rules.specs.Answer.{Answer, refuses, Leaves, leaves}
+use Rattle.rules.specs.Answer.{Answer, refuses, Leaves, leaves, turnSays}
 use Rattle.rules.specs.Give.{storedAt, give}
 use Rattle.rules.specs.Record.{noTask, taskAt, goodTask}
 use Rattle.rules.specs.Step.{Lent, step}
 use Rattle.task_step.specs.Given.{giveOne, give-one}
-use Rattle.rules.specs.Answer.{turnSays}
 use Rattle.task_step.specs.Stepping.{Left, stepSays, stepOne, lentOf, step-one}
 
 -- give, where no record has the task number

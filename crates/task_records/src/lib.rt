@@ -12,10 +12,9 @@ use task_step::give::give as give_one;
 use task_step::step::step as step_one;
 ghost use mathlib.Core.Path.{_≡_};
 ghost use Rattle.rules.specs.Shape.{shapeOf};
-ghost use Rattle.rules.specs.Answer.{doneSays, leaves};
+ghost use Rattle.rules.specs.Answer.{doneSays, leaves, turnSays};
 ghost use Rattle.rules.specs.Give as giving;
 ghost use Rattle.rules.specs.Step as stepping;
-ghost use Rattle.rules.specs.Answer.{turnSays};
 ghost use Rattle.task_records.specs.Calls.{giveNone, giveAt, stepNone, stepAt, giveAll, stepAll};
 
 // A record as a call leaves it, beside its answer.

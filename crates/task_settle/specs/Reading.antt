@@ -10,7 +10,6 @@ use native.Mathlib.Numerals.{add-one}
 use native.Mathlib.Omega.{arith}
 use lib.ListN.{length, getD}
 use lib.Seq.{length-slice}
-use lib.Dec.{eqb}
 use Rattle.rules.specs.declared.Shape.{Shape}
 use Rattle.rules.specs.declared.Task.{Task}
 use Rattle.rules.specs.Lists.{all}
@@ -19,9 +18,10 @@ use Rattle.rules.specs.Bytes.{wordsOf}
 use Rattle.rules.specs.Shape.{places, rightGuard}
 use Rattle.rules.specs.Entry.{Entry, split}
 use Rattle.rules.specs.Table.{at, occupiedPlaces, leftGap, between, soundRun, entriesBetween}
-use Rattle.rules.specs.Record.{homePlaceOf, toPhase, withHand, withGoal, withAnswer}
-use Rattle.rules.specs.Phase.{handOf, goalOf, readEntries, readable}
+use Rattle.rules.specs.Record.{homePlaceOf, toPhase, withAnswer}
+use Rattle.rules.specs.Phase.{readEntries, readable, fillFrom}
 use Rattle.rules.specs.Lay.{smaller}
+use Rattle.rules.specs.Room.{whichEnd}
 use Rattle.table_words.specs.Range.{homes-high}
 use Rattle.table_words.specs.Layout.{words-length}
 use Rattle.table_words.specs.All.{all-at}
@@ -44,9 +44,7 @@ unfoldable pub afterRead : Shape → Task → Read → Task
 afterRead sh t read =
     cond (read .held)
     (toPhase 11 (withAnswer 1 t))
-    (cond (eqb (t .left) 0 && eqb (t .right) (rightGuard sh))
-    (toPhase 11 (withAnswer 3 t))
-    (toPhase 8 (withHand (handOf t) (withGoal (goalOf t (read .smaller)) (read .mark) t))))
+    (fillFrom (whichEnd sh (t .left) (t .right)) (read .smaller) (read .mark) t)
 
 pub after-entries :
     (sh : Shape) (t : Task) (e : Entry) (es : List Entry) → afterRead sh t (readOf e es) ≡ readEntries sh t e es

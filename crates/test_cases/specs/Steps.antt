@@ -11,19 +11,19 @@ use Rattle.test_cases.specs.Tests.{opened, every, those, sameList, allKe
 use Rattle.rules.specs.declared.Shape.{Shape}
 use Rattle.rules.specs.declared.Task.{Task}
 use Rattle.rules.specs.Word.{isZero, isLock}
+use Rattle.rules.specs.Lay.{smaller, markOf}
 use Rattle.rules.specs.Answer.{Answer, Leaves, leaves}
 use Rattle.rules.specs.Put.{put}
-use Rattle.rules.specs.Record.{homePlaceOf, busy, atRest, fitsHand, fitsBusy, fits}
+use Rattle.rules.specs.Record.{homePlaceOf, busy, atRest, fitsHand, fitsBusy, fits, noTask, taskAt, goodTask}
 use Rattle.rules.specs.Give.{given, giveTo, give}
-use Rattle.rules.specs.Record.{noTask, taskAt, goodTask}
 use Rattle.rules.specs.Phase as phase
 use Rattle.rules.specs.Step.{ofPhase, stepOf, Lent, step}
 
 -- what the steps add to the shut names
 unfoldable stepsOpened : Bool
 unfolding opened isZero isLock homePlaceOf busy atRest fitsHand fitsBusy fits given goodTask giveTo give phase.home
-    phase.lookLeft phase.lookRight phase.lockLeft phase.lockRight phase.backOff phase.readable phase.smaller
-    phase.markOf phase.handOf phase.goalOf phase.readEntries phase.read phase.movesOn phase.fillHand phase.neighbour
+    phase.lookLeft phase.lookRight phase.lockLeft phase.lockRight phase.backOff phase.readable smaller
+    markOf phase.readEntries phase.read phase.movesOn phase.fillHand phase.neighbour
     phase.exchange phase.move phase.setChange phase.setVirgin phase.marked phase.mark phase.freeLeft
     phase.freeRight ofPhase stepOf step
 stepsOpened = true

@@ -7,28 +7,26 @@ use mathlib.Core.Bool.{Bool, true, false, not, cond, _&&_, _||_, Bool·beq}
 use mathlib.Core.List.{List, [], _∷_, _++_, map, flatMap}
 use lib.Dec.{ltb, leb, eqb}
 use lib.ListN.{length, replicate, set}
-use Rattle.test_cases.specs.Tables.{inBytes, Small, wordsIn, tablesOver, smallTables}
-use Rattle.test_cases.specs.Tables.{listsOver, sublists, plainTables}
-use Rattle.test_cases.specs.ByHand.{among, takenAmong, soundByHand, keysByHand}
-use Rattle.test_cases.specs.ByHand.{findByHand, putByHand, listByHand, fillByHand}
+use Rattle.test_cases.specs.Tables.{inBytes, Small, wordsIn, tablesOver, smallTables, listsOver, sublists}
+use Rattle.test_cases.specs.Tables.{plainTables}
+use Rattle.test_cases.specs.ByHand.{among, takenAmong, soundByHand, keysByHand, findByHand, putByHand, listByHand}
+use Rattle.test_cases.specs.ByHand.{fillByHand}
 use Rattle.rules.specs.declared.Shape.{Shape}
-use Rattle.rules.specs.Lists.{bitOf, count, all, any}
+use Rattle.rules.specs.Lists.{bitOf, count, all, any, atFront}
 use Rattle.rules.specs.Word.{Word, wordOf, numberOf, isVoid}
 use Rattle.rules.specs.Bytes.{wordsOf, bytesOf}
 use Rattle.rules.specs.Shape.{shapeOf, inRange, homes, remainders, keys, places, rightGuard, fitsLength, goodTable}
-use Rattle.rules.specs.Entry.{placeOfHome, homeOfPlace, homeOf, remainderOf, split, join}
-use Rattle.rules.specs.Entry.{sameHome, sameEntry, precedes}
-use Rattle.rules.specs.Table.{occupiedPlaces, leftGap, lead, rightGap, cluster, endsInChange, rising, soundRun, virginPlaces}
-use Rattle.rules.specs.Table.{deal, entriesBetween, clusterEntries, entryAt, entriesFrom, entries, list}
+use Rattle.rules.specs.Entry.{placeOfHome, homeOfPlace, homeOf, remainderOf, split, join, sameHome, sameEntry, precedes}
+use Rattle.rules.specs.Table.{occupiedPlaces, leftGap, lead, rightGap, cluster, endsInChange, rising, soundRun}
+use Rattle.rules.specs.Table.{virginPlaces, deal, entriesBetween, clusterEntries, entryAt, entriesFrom, entries, list}
 use Rattle.rules.specs.Table.{soundAt, soundFrom, guardsVoid, sound, locked}
-use Rattle.rules.specs.Room.{Room, place, full, roomBeside, roomFor}
+use Rattle.rules.specs.Room.{Room, place, full, whichEnd, roomBeside, roomFor}
 use Rattle.rules.specs.Lay.{holds, insert, ascend, hasHome, endsGroup, lay}
 use Rattle.rules.specs.Answer.{Answer, says, refuses, Leaves, leaves}
 use Rattle.rules.specs.Find.{around, soundAround, lockedAround, findIn, find}
 use Rattle.rules.specs.Put.{layRun, enlargedFrom, addAt, putIn, put}
 use Rattle.rules.specs.Build.{zeros, puts, tooMany, buildIn, build}
 use Rattle.rules.specs.Listing.{listIn, listing}
-use Rattle.rules.specs.Lists.{atFront}
 use Rattle.rules.specs.Fill.{figure, fill}
 
 -- all that is shut, opened at once
@@ -36,7 +34,7 @@ unfoldable pub opened : Bool
 unfolding count all any wordOf numberOf isVoid wordsOf bytesOf inRange homes remainders keys places rightGuard
     fitsLength goodTable placeOfHome homeOfPlace homeOf remainderOf split join sameHome sameEntry precedes
     occupiedPlaces leftGap lead rightGap cluster endsInChange rising soundRun virginPlaces deal entriesBetween
-    clusterEntries entryAt entriesFrom entries list soundAt soundFrom guardsVoid sound locked roomBeside
+    clusterEntries entryAt entriesFrom entries list soundAt soundFrom guardsVoid sound locked whichEnd roomBeside
     roomFor holds insert ascend hasHome endsGroup lay around soundAround lockedAround findIn find layRun
     enlargedFrom addAt putIn put zeros puts tooMany buildIn build atFront listIn listing figure fill
     flatMap tablesOver smallTables listsOver sublists plainTables

@@ -22,8 +22,7 @@ use Rattle.theory.specs.Insert.{asc-weaken, asc-below, insert-asc, inser
 use Rattle.theory.specs.Locks.{locked-append}
 use Rattle.theory.specs.Joined.{run-append}
 use Rattle.theory.specs.Seen.{Right, right-end, right-more, Left, left-start, left-more, Table, whole, left-asc}
-use Rattle.theory.specs.Seen.{right-asc}
-use Rattle.theory.specs.Seen.{AtGap, InRun}
+use Rattle.theory.specs.Seen.{right-asc, AtGap, InRun}
 use Rattle.theory.specs.Pairs.{lay-run, lay-free, all-occupied}
 use Rattle.theory.specs.RunLaws.{run-occupied}
 use Rattle.theory.specs.Dealt.{isOccupied}

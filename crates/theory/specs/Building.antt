@@ -21,8 +21,7 @@ use Rattle.rules.specs.Put.{addAt, Outcome, putIn, wordsAfter}
 use Rattle.rules.specs.Build.{puts}
 use Rattle.theory.specs.Run.{code, Asc, none, next}
 use Rattle.theory.specs.Insert.{Within, Compared, before, same, after, compared, asc-all, asc-weaken, held-all}
-use Rattle.theory.specs.Insert.{holds-below}
-use Rattle.theory.specs.Insert.{holds-head, same-eq, same-refl, same-not, insert-asc, insert-length}
+use Rattle.theory.specs.Insert.{holds-below, holds-head, same-eq, same-refl, same-not, insert-asc, insert-length}
 use Rattle.theory.specs.Insert.{holds-insert, insert-held, insert-comm, holds-ascend}
 use Rattle.theory.specs.Dealt.{or-right}
 use Rattle.theory.specs.Gaps.{HomePlace}

@@ -18,8 +18,8 @@ use Rattle.rules.specs.Word.{Word, zeroWord, isVoid}
 use Rattle.rules.specs.Shape.{places, rightGuard}
 use Rattle.rules.specs.Table.{at, occupiedPlaces, leftGap, rightGap, between, guardsVoid}
 use Rattle.theory.specs.Dealt.{isOccupied, and-right, and-both}
-use Rattle.theory.specs.Gaps.{Side, Free, Taken, TakenFrom, Guarded, HomePlace, Gap, gap-is, gap-first}
-use Rattle.theory.specs.Gaps.{gap-below, gap-above}
+use Rattle.theory.specs.Gaps.{Side, Free, Taken, TakenFrom, Guarded, HomePlace, Gap, gap-is, gap-first, gap-below}
+use Rattle.theory.specs.Gaps.{gap-above}
 use Rattle.theory.specs.Gaps as gaps
 use Rattle.theory.specs.Places.{void-free, left-free, occupied-at, occupied-length}
 use Rattle.theory.specs.Side.{beside, begins, stands}

@@ -12,7 +12,8 @@ use Rattle.rules.specs.Lists.{bitOf, all, any}
 use Rattle.rules.specs.Word.{Word, isVoid}
 use Rattle.rules.specs.Entry.{Entry}
 use Rattle.rules.specs.Shape.{remainders, places}
-use Rattle.rules.specs.Table.{at, occupiedPlaces, leftGap, rightGap, cluster, soundRun, clusterEntries, guardsVoid, locked}
+use Rattle.rules.specs.Table.{at, occupiedPlaces, leftGap, rightGap, cluster, soundRun, clusterEntries, guardsVoid}
+use Rattle.rules.specs.Table.{locked}
 use Rattle.rules.specs.Lay.{holds}
 use Rattle.rules.specs.Answer.{says}
 use Rattle.rules.specs.Find.{around, soundAround, lockedAround, findIn}

@@ -16,7 +16,8 @@ use borrow.Author.Tests.{leb-true, leb-false, eqb-true, eqb-false, eq-eqb, ne-eq
 use Rattle.rules.specs.declared.Shape.{Shape}
 use Rattle.rules.specs.Shape.{homes, places, rightGuard}
 use Rattle.rules.specs.Table.{leftGap, lead, rightGap}
-use Rattle.rules.specs.Room.{Room, place, full, roomBeside, roomFor}
+use Rattle.rules.specs.Room.{Room, place, full, ToFill, onLeft, onRight, onNeither, whichEnd, roomAt, roomBeside}
+use Rattle.rules.specs.Room.{roomFor}
 
 -- ---- occupied places
 
@@ -237,6 +238,30 @@ unfolding rightGuard
 home-no-guard left k = omega (arith, k .first)
 home-no-guard right k = omega (arith, k .last)
 
+-- the view of the end that is filled, by the empty places beside a cluster
+pub data Picks (sh : Shape) (l r : ℕ) : ToFill → Type 0 where
+  picks-left : l ≢ 0 → Picks sh l r onLeft
+  picks-right : l ≡ 0 → r ≢ rightGuard sh → Picks sh l r onRight
+  picks-neither : l ≡ 0 → r ≡ rightGuard sh → Picks sh l r onNeither
+
+module _ (sh : Shape) (l r : ℕ) where
+  pub picked : Picks sh l r (whichEnd sh l r)
+  unfolding whichEnd
+  picked = go (eqb l 0) (eqb r (rightGuard sh)) refl refl
+    where
+      go : (a b : Bool) → eqb l 0 ≡ a → eqb r (rightGuard sh) ≡ b →
+          Picks sh l r (cond a (cond b onNeither onRight) onLeft)
+      go true true x y = picks-neither (eqb-true l 0 x) (eqb-true r (rightGuard sh) y)
+      go true false x y = picks-right (eqb-true l 0 x) (eqb-false r (rightGuard sh) y)
+      go false b x y = picks-left (eqb-false l 0 x)
+
+  -- and it is no other
+  pub picked-only : {w : ToFill} → Picks sh l r w → whichEnd sh l r ≡ w
+  unfolding whichEnd
+  picked-only (picks-left n) = rw (ne-eqb l 0 n)
+  picked-only (picks-right e n) = rw (eq-eqb l 0 e, ne-eqb r (rightGuard sh) n)
+  picked-only (picks-neither e f) = rw (eq-eqb l 0 e, eq-eqb r (rightGuard sh) f)
+
 -- the rule that looks to a side first, and to the other where it meets the guard
 unfoldable pub roomFrom : Side → Shape → List Bool → ℕ → Room
 roomFrom s sh os h =
@@ -248,8 +273,17 @@ roomFrom s sh os h =
 
 -- the paper's rule looks to the left first
 pub room-left : (sh : Shape) (os : List Bool) (h : ℕ) → roomFor sh os h ≡ roomFrom left sh os h
-unfolding roomFor roomBeside roomFrom
-room-left sh os h = refl
+unfolding roomFor roomBeside whichEnd roomFrom
+room-left sh os h =
+    ap (λ (r : Room). cond (getD os h false) r (place h))
+    (go (eqb (leftGap os h) 0) (eqb (rightGap os h) (rightGuard sh)))
+  where
+    go : (a b : Bool) →
+        roomAt (cond a (cond b onNeither onRight) onLeft) (leftGap os h) (rightGap os h)
+        ≡ cond a (cond b full (place (rightGap os h))) (place (leftGap os h))
+    go true true = refl
+    go true false = refl
+    go false b = refl
 
 -- the view of the rule: at home, at its first side, at its second, nowhere
 pub data Chosen (s : Side) (sh : Shape) (os : List Bool) (h : ℕ) : Room → Type 0 where

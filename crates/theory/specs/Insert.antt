@@ -14,8 +14,7 @@ use lib.Dec.{ltb, eqb}
 use borrow.Author.Tests.{ltb-true, ltb-false, eqb-true, eq-eqb, lt-ltb, le-ltb}
 use Rattle.rules.specs.Lists.{any, count}
 use Rattle.rules.specs.Entry.{Entry, sameHome, sameEntry, precedes}
-use Rattle.rules.specs.Lay.{holds, insert, ascend}
-use Rattle.rules.specs.Lay.{smaller}
+use Rattle.rules.specs.Lay.{holds, insert, ascend, smaller}
 use Rattle.theory.specs.Run.{code, Asc, none, next}
 use Rattle.theory.specs.Every as every
 use Rattle.theory.specs.Every.{All, all-map}

@@ -9,9 +9,8 @@ use mathlib.Core.List.{List, _++_}
 use lib.ListN.{length}
 use Rattle.rules.specs.Word.{Word, isVoid}
 use Rattle.rules.specs.Entry.{Entry}
-use Rattle.rules.specs.Lay.{holds, insert}
+use Rattle.rules.specs.Lay.{holds, insert, smaller, markOf}
 use Rattle.rules.specs.Put.{layRun}
-use Rattle.rules.specs.Lay.{smaller, markOf}
 use Rattle.theory.specs.Run.{Run}
 use Rattle.theory.specs.Insert.{insert-asc, insert-length, asc-weaken}
 use Rattle.theory.specs.Motion.{fillAt, finish}
@@ -20,8 +19,8 @@ use Rattle.theory.specs.Payload.{length-wedge}
 use Rattle.theory.specs.Mark.{goes, smaller-le, insert-wedge}
 use Rattle.theory.specs.Laid.{closes-above}
 use Rattle.theory.specs.Gaps.{Side}
-use Rattle.theory.specs.Side.{beside, begins, stands, index}
-use Rattle.theory.specs.Side.{stands-index, index-le, begins-ge, begins-le, beside-wedge}
+use Rattle.theory.specs.Side.{beside, begins, stands, index, stands-index, index-le, begins-ge, begins-le}
+use Rattle.theory.specs.Side.{beside-wedge}
 use Rattle.theory.specs.Enlarge.{enlarge}
 
 -- what the read step has found: the filled word void, e's home inside the run, and e not among the run's entries

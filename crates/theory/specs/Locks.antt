@@ -15,8 +15,7 @@ use Rattle.rules.specs.Entry.{Entry, join}
 use Rattle.rules.specs.Shape.{remainders, rightGuard}
 use Rattle.rules.specs.Table.{at, occupiedPlaces, leftGap, rightGap, between, cluster, endsInChange, rising, soundRun}
 use Rattle.rules.specs.Table.{virginPlaces, front, due, deal, entriesBetween, clusterEntries, entryAt, entriesFrom}
-use Rattle.rules.specs.Table.{entries}
-use Rattle.rules.specs.Table.{list, soundAt, soundFrom, sound, locked}
+use Rattle.rules.specs.Table.{entries, list, soundAt, soundFrom, sound, locked}
 use Rattle.theory.specs.Run.{unlock}
 use Rattle.theory.specs.Dealt.{isChange, isVirgin, isLow, and-left, and-right, word-path}
 

@@ -11,8 +11,7 @@ use lib.Dec.{eqb}
 use borrow.Author.Tests.{eqb-true, eqb-false, ne-eqb}
 use Rattle.rules.specs.Lists.{any, all}
 use Rattle.rules.specs.Entry.{Entry, sameHome, precedes}
-use Rattle.rules.specs.Lay.{holds, insert, endsGroup}
-use Rattle.rules.specs.Lay.{smaller, markOf}
+use Rattle.rules.specs.Lay.{holds, insert, endsGroup, smaller, markOf}
 use Rattle.theory.specs.Run.{code, Asc, none, next}
 use Rattle.theory.specs.Every as every
 use Rattle.theory.specs.Every.{All}

@@ -14,17 +14,15 @@ use lib.Seq.{sets, split-at, length-take-le, length-slice}
 use borrow.Author.Tests.{eq-eqb}
 use Rattle.rules.specs.declared.Shape.{Shape}
 use Rattle.rules.specs.Lists.{bitOf, count, all, any}
-use Rattle.rules.specs.Word.{Word, zeroWord, isVoid}
+use Rattle.rules.specs.Word.{Word, zeroWord, isVoid, aloneWord}
 use Rattle.rules.specs.Shape.{places, remainders}
 use Rattle.rules.specs.Entry.{Entry, sameHome, precedes}
-use Rattle.rules.specs.Table.{at, occupiedPlaces, leftGap, rightGap, between, cluster, soundRun}
-use Rattle.rules.specs.Table.{virginPlaces, entriesBetween, clusterEntries, guardsVoid, locked}
+use Rattle.rules.specs.Table.{at, occupiedPlaces, leftGap, rightGap, between, cluster, soundRun, virginPlaces}
+use Rattle.rules.specs.Table.{entriesBetween, clusterEntries, guardsVoid, locked}
 use Rattle.rules.specs.Room.{place, roomFor}
-use Rattle.rules.specs.Lay.{holds, insert, hasHome, endsGroup, lay}
+use Rattle.rules.specs.Lay.{holds, insert, hasHome, endsGroup, lay, smaller, markOf}
 use Rattle.rules.specs.Find.{around, soundAround, lockedAround}
 use Rattle.rules.specs.Put.{layRun, enlargedFrom, addAt}
-use Rattle.rules.specs.Word.{aloneWord}
-use Rattle.rules.specs.Lay.{smaller, markOf}
 use Rattle.table_words.specs.Counts.{count-le}
 use Rattle.theory.specs.Run.{Run}
 use Rattle.theory.specs.Dealt.{isOccupied, and-left, and-right, deal-length}

@@ -17,11 +17,9 @@ use Rattle.rules.specs.declared.Shape.{Shape}
 use Rattle.rules.specs.Lists.{count}
 use Rattle.rules.specs.Shape.{homes, places, rightGuard}
 use Rattle.rules.specs.Room.{Room, place, full, roomFor}
-use Rattle.theory.specs.Gaps.{Taken, Free, TakenFrom, AllTaken, Guarded, HomePlace, Nearest}
-use Rattle.theory.specs.Gaps.{set-keeps, set-taken, set-guarded}
-use Rattle.theory.specs.Gaps.{Side, left, other, home-no-guard, gap-stays, gap-shared}
-use Rattle.theory.specs.Gaps.{roomFrom, Chosen, homeAt, first, second}
-use Rattle.theory.specs.Gaps.{chosen, chosen-only, chosen-nearest, chosen-full}
+use Rattle.theory.specs.Gaps.{Taken, Free, TakenFrom, AllTaken, Guarded, HomePlace, Nearest, set-keeps, set-taken}
+use Rattle.theory.specs.Gaps.{set-guarded, Side, left, other, home-no-guard, gap-stays, gap-shared, roomFrom}
+use Rattle.theory.specs.Gaps.{Chosen, homeAt, first, second, chosen, chosen-only, chosen-nearest, chosen-full}
 use Rattle.theory.specs.Gaps.{room-left, room-full}
 
 -- the occupied places after a fill

@@ -10,8 +10,8 @@ use mathlib.Core.List.{List, [], _∷_, _++_, map}
 use lib.ListN.{length}
 use Rattle.rules.specs.Word.{Word, withPayload, filledWith}
 use Rattle.rules.specs.Phase.{exchange}
-use Rattle.theory.specs.Motion.{fillAt, toward, moves, distance, Heads, rightward, leftward, heads}
-use Rattle.theory.specs.Motion.{toward-lt, distance-toward, distance-none, distance-some}
+use Rattle.theory.specs.Motion.{fillAt, toward, moves, distance, Heads, rightward, leftward, heads, toward-lt}
+use Rattle.theory.specs.Motion.{distance-toward, distance-none, distance-some}
 
 -- the payloads of some words on the places of others
 abbrev pub loaded : List Word → List Word → List Word

@@ -13,8 +13,8 @@ use lib.Seq.{slice, getD-append-seam, getD-append-add, take-append-add, take-app
 use Rattle.rules.specs.declared.Shape.{Shape}
 use Rattle.rules.specs.Lists.{all}
 use Rattle.rules.specs.Word.{Word, zeroWord, isVoid}
-use Rattle.rules.specs.Table.{at, occupiedPlaces, leftGap, rightGap, between, cluster, virginPlaces, deal, entriesBetween}
-use Rattle.rules.specs.Table.{clusterEntries, guardsVoid}
+use Rattle.rules.specs.Table.{at, occupiedPlaces, leftGap, rightGap, between, cluster, virginPlaces, deal}
+use Rattle.rules.specs.Table.{entriesBetween, clusterEntries, guardsVoid}
 use Rattle.table_words.specs.All.{all-at}
 use Rattle.theory.specs.Dealt.{isOccupied, and-left}
 use Rattle.theory.specs.Locks.{void-unlock}

@@ -26,8 +26,8 @@ use Rattle.theory.specs.SoundTable.{table-guards}
 use Rattle.theory.specs.Gaps.{Free, Taken, Guarded, HomePlace, Chosen, room-chosen}
 use Rattle.theory.specs.Gaps as gaps
 use Rattle.theory.specs.Seen.{Table, AtGap, InRun, Located, at-gap, in-run, locate}
-use Rattle.theory.specs.Places.{void-free, occupied-at, at-seam, gap-left, gap-entries}
-use Rattle.theory.specs.Places.{run-taken, run-left, run-right, run-cluster-entries}
+use Rattle.theory.specs.Places.{void-free, occupied-at, at-seam, gap-left, gap-entries, run-taken, run-left}
+use Rattle.theory.specs.Places.{run-right, run-cluster-entries}
 use Rattle.theory.specs.Cut.{void-guarded}
 use Rattle.theory.specs.Finding.{origin, Surroundings, surroundings, around-free}
 use Rattle.theory.specs.Adding.{Added, add-home, add-left, add-right}

@@ -16,9 +16,8 @@ use Rattle.rules.specs.Phase.{exchange, setChange, setVirgin, marked}
 use Rattle.table_words.specs.Layout.{change-length, exchange-length}
 use Rattle.theory.specs.Run.{unlock}
 use Rattle.theory.specs.Locks.{at-unlock}
-use Rattle.theory.specs.Motion.{fillAt, toward, moves, distance, finish, marked-both}
-use Rattle.theory.specs.Motion.{Heads, rightward, leftward, heads, toward-lt}
-use Rattle.theory.specs.Motion.{distance-toward, distance-some}
+use Rattle.theory.specs.Motion.{fillAt, toward, moves, distance, finish, marked-both, Heads, rightward, leftward}
+use Rattle.theory.specs.Motion.{heads, toward-lt, distance-toward, distance-some}
 
 -- ---- lock bits aside
 

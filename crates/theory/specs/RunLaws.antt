@@ -19,12 +19,10 @@ use Rattle.rules.specs.Table.{endsInChange, soundRun, virginPlaces, deal}
 use Rattle.rules.specs.Lay.{hasHome, endsGroup, lay}
 use Rattle.rules.specs.Put.{layRun}
 use Rattle.theory.specs.Run.{Asc, none, next, unlock, Run}
-use Rattle.theory.specs.Dealt.{isChange, isVirgin, isOccupied, isLow, and-left, and-right, and-both, Least}
-use Rattle.theory.specs.Dealt.{Dealt, dealt-none, dealt-ends, dealt-goes, dealt, dealt-deal, dealt-count}
-use Rattle.theory.specs.Dealt.{dealt-size}
+use Rattle.theory.specs.Dealt.{isChange, isVirgin, isOccupied, isLow, and-left, and-right, and-both, Least, Dealt}
+use Rattle.theory.specs.Dealt.{dealt-none, dealt-ends, dealt-goes, dealt, dealt-deal, dealt-count, dealt-size}
 use Rattle.theory.specs.Dealt.{dealt-ends-in-change, dealt-low, dealt-rising, dealt-homes, dealt-asc, dealt-lay}
-use Rattle.theory.specs.Dealt.{among}
-use Rattle.theory.specs.Dealt.{Rising, rising-none, rising-next}
+use Rattle.theory.specs.Dealt.{among, Rising, rising-none, rising-next}
 use Rattle.theory.specs.Locks.{sound-run-unlock, virgin-unlock, deal-unlock, all-unlock}
 
 -- ---- the virgin places of a run

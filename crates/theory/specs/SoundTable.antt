@@ -15,8 +15,8 @@ use Rattle.rules.specs.Lists.{count, all}
 use Rattle.rules.specs.Word.{Word, zeroWord, isVoid}
 use Rattle.rules.specs.Entry.{Entry}
 use Rattle.rules.specs.Shape.{homes, remainders, places, rightGuard}
-use Rattle.rules.specs.Table.{at, cluster, endsInChange, rising, soundRun, virginPlaces, deal, entryAt}
-use Rattle.rules.specs.Table.{entriesFrom, entries, soundAt, soundFrom, guardsVoid, sound}
+use Rattle.rules.specs.Table.{at, cluster, endsInChange, rising, soundRun, virginPlaces, deal, entryAt, entriesFrom}
+use Rattle.rules.specs.Table.{entries, soundAt, soundFrom, guardsVoid, sound}
 use Rattle.theory.specs.Run.{Run}
 use Rattle.theory.specs.Dealt.{isOccupied, and-left, and-right, and-both}
 use Rattle.theory.specs.RunLaws.{sound-is-run, run-is-sound, run-occupied, run-entries}

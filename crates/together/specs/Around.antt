@@ -13,11 +13,9 @@ use Rattle.rules.specs.Word.{Word, lockWord}
 use Rattle.rules.specs.Shape.{remainders, keys, places, rightGuard}
 use Rattle.rules.specs.Entry.{Entry, split}
 use Rattle.rules.specs.Table.{at, occupiedPlaces, leftGap, rightGap, between, cluster, soundRun, virginPlaces, deal}
-use Rattle.rules.specs.Table.{entriesBetween}
-use Rattle.rules.specs.Table.{clusterEntries}
+use Rattle.rules.specs.Table.{entriesBetween, clusterEntries}
 use Rattle.rules.specs.Lay.{holds}
-use Rattle.rules.specs.Record.{homePlaceOf}
-use Rattle.rules.specs.Record.{taskAt}
+use Rattle.rules.specs.Record.{homePlaceOf, taskAt}
 use Rattle.table_words.specs.Split.{split-in-shape}
 use Rattle.theory.specs.Run.{unlock}
 use Rattle.theory.specs.Dealt.{isOccupied}

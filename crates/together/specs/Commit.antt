@@ -14,20 +14,17 @@ use borrow.Author.Tests.{eqb-true, eqb-false}
 use Rattle.rules.specs.declared.Shape.{Shape}
 use Rattle.rules.specs.declared.Task.{Task}
 use Rattle.rules.specs.Lists.{any}
-use Rattle.rules.specs.Word.{Word, zeroWord, lockWord, filledWith, isVoid, isLock, isZero}
+use Rattle.rules.specs.Word.{Word, zeroWord, lockWord, filledWith, isVoid, isLock, isZero, aloneWord}
 use Rattle.rules.specs.Shape.{homes, remainders, keys, places, rightGuard}
 use Rattle.rules.specs.Entry.{Entry, split, sameEntry}
 use Rattle.rules.specs.Table.{at, occupiedPlaces, leftGap, rightGap, between, virginPlaces, deal, entriesBetween}
 use Rattle.rules.specs.Table.{clusterEntries}
 use Rattle.rules.specs.Room.{place, full, roomFor}
-use Rattle.rules.specs.Lay.{holds, insert}
+use Rattle.rules.specs.Lay.{holds, insert, smaller, markOf}
 use Rattle.rules.specs.Put.{addAt, enlargedFrom, Outcome, keeps, putIn, wordsAfter}
-use Rattle.rules.specs.Record.{homePlaceOf, toPhase, withLeft, withAnswer}
-use Rattle.rules.specs.Record.{taskAt}
+use Rattle.rules.specs.Record.{homePlaceOf, toPhase, withLeft, withAnswer, taskAt, again}
 use Rattle.rules.specs.Phase as phase
 use Rattle.rules.specs.Phase.{to, unsound, movesOn}
-use Rattle.rules.specs.Word.{aloneWord}
-use Rattle.rules.specs.Lay.{smaller, markOf}
 use Rattle.table_words.specs.Split.{split-in-shape}
 use Rattle.theory.specs.Run.{unlock}
 use Rattle.theory.specs.Dealt.{or-left, or-right}
@@ -44,11 +41,9 @@ use Rattle.theory.specs.Finding.{Surroundings, surroundings, around-free}
 use Rattle.theory.specs.Putting.{Puts, found, inserted, overflow, put-table, table-guarded}
 use Rattle.theory.specs.Moving.{Addable, add-end, begins-from, room-alone, add-alone}
 use Rattle.theory.specs.Building.{State, after-put, added-state, place≢full}
-use Rattle.together.specs.Frames.{Within, at-set, at-other, finish-before, finish-after, locks-at}
-use Rattle.together.specs.Frames.{occupied-same}
+use Rattle.together.specs.Frames.{Within, at-set, at-other, finish-before, finish-after, locks-at, occupied-same}
 use Rattle.together.specs.Invariant.{Occupied, Looked, Fills, MayFill, Moving, Owns, by-left, by-right, Reserves}
-use Rattle.together.specs.Invariant.{Apart, Unfinished}
-use Rattle.together.specs.Invariant.{Inv, InPhase, at-rest, moving, marking}
+use Rattle.together.specs.Invariant.{Apart, Unfinished, Inv, InPhase, at-rest, moving, marking}
 use Rattle.together.specs.Stable.{Frame, LetsAlone, stage-stable, finish-same, from-ge, upTo-le, fills-as}
 use Rattle.together.specs.Update.{Steps, same-or-not}
 use Rattle.together.specs.Facts.{in-order, words-size, reserved-laid}
@@ -799,7 +794,7 @@ module _ {sh : Shape} {ws : List Word} {ts : List Task} {laid : List Word} {show
               (λ (w : Word).
               cond
               (w .lock)
-              (to t₁ ws)
+              (to (again t₁) ws)
               (cond
               (isZero w)
               (to next grown)

@@ -13,16 +13,14 @@ use Rattle.rules.specs.Word.{Word, lockWord, isZero}
 use Rattle.rules.specs.Shape.{remainders, keys}
 use Rattle.rules.specs.Entry.{Entry}
 use Rattle.rules.specs.Table.{at}
-use Rattle.rules.specs.Record.{homePlaceOf}
-use Rattle.rules.specs.Record.{taskAt}
+use Rattle.rules.specs.Record.{homePlaceOf, taskAt}
 use Rattle.together.specs.Invariant.{Looked, LookedLeft, Inv, InPhase, at-rest, at-home, looks-left, looks-right}
-use Rattle.together.specs.Invariant.{owns-left}
-use Rattle.together.specs.Invariant.{owns-both, has-read, moving, marking, frees-left, frees-right}
+use Rattle.together.specs.Invariant.{owns-left, owns-both, has-read, moving, marking, frees-left, frees-right}
 use Rattle.together.specs.Stable.{word-of}
 use Rattle.together.specs.Facts.{in-order, free-void}
 use Rattle.together.specs.Walk.{Walked, walk-stay, walk-home, walk-left-on, walk-left-stop, walk-right-on}
-use Rattle.together.specs.Walk.{walk-right-stop}
-use Rattle.together.specs.Walk.{walk-again, walk-lock-left, walk-right-taken, walk-lock-right, walk-back}
+use Rattle.together.specs.Walk.{walk-right-stop, walk-again, walk-lock-left, walk-right-taken, walk-lock-right}
+use Rattle.together.specs.Walk.{walk-back}
 use Rattle.together.specs.Reading.{walk-read}
 use Rattle.together.specs.Finishing.{walk-move, walk-mark, walk-free-left, walk-free-right}
 use Rattle.together.specs.Commit.{walk-fill, walk-alone}

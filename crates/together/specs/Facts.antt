@@ -17,9 +17,7 @@ use Rattle.rules.specs.Shape.{homes, remainders, keys, places, rightGuard}
 use Rattle.rules.specs.Entry.{Entry}
 use Rattle.rules.specs.Table.{at, occupiedPlaces, guardsVoid}
 use Rattle.rules.specs.Lay.{lay}
-use Rattle.rules.specs.Record.{homePlaceOf, within, implies, busy, atRest, fitsHand, fitsBusy, fits}
-use Rattle.rules.specs.Record.{taskAt}
-use Rattle.rules.specs.Record.{taskAt}
+use Rattle.rules.specs.Record.{homePlaceOf, within, implies, busy, atRest, fitsHand, fitsBusy, fits, taskAt}
 use Rattle.table_words.specs.Tests.{inside, between}
 use Rattle.theory.specs.Run.{unlock}
 use Rattle.theory.specs.Dealt.{and-both, or-left, or-right}
@@ -31,10 +29,9 @@ use Rattle.theory.specs.Pairs.{table-lay, unlocked-same}
 use Rattle.theory.specs.Putting.{table-guarded}
 use Rattle.theory.specs.Building.{State}
 use Rattle.together.specs.Frames.{Within, occupied-same}
-use Rattle.together.specs.Invariant.{Occupied, Looked, Moving}
-use Rattle.together.specs.Invariant.{InPhase, at-rest, at-home, looks-left, looks-right, owns-left, owns-both}
-use Rattle.together.specs.Invariant.{has-read}
-use Rattle.together.specs.Invariant.{moving, marking, frees-left, frees-right, Unfinished, Inv}
+use Rattle.together.specs.Invariant.{Occupied, Looked, Moving, InPhase, at-rest, at-home, looks-left, looks-right}
+use Rattle.together.specs.Invariant.{owns-left, owns-both, has-read, moving, marking, frees-left, frees-right}
+use Rattle.together.specs.Invariant.{Unfinished, Inv}
 use Rattle.together.specs.Update.{same-or-not}
 
 -- ---- which task is unfinished at a place, if any

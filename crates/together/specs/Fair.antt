@@ -23,9 +23,8 @@ use Rattle.rules.specs.Table.{at, occupiedPlaces, entries, locked}
 use Rattle.rules.specs.Lay.{holds, insert}
 use Rattle.rules.specs.Build.{puts}
 use Rattle.rules.specs.Answer.{Answer, says, refuses, Leaves, leaves}
-use Rattle.rules.specs.Record.{busy, atRest, fitsBusy, fits}
+use Rattle.rules.specs.Record.{busy, atRest, fitsBusy, fits, noTask, taskAt, goodTask}
 use Rattle.rules.specs.Give.{given, giveTo, give}
-use Rattle.rules.specs.Record.{noTask, taskAt, goodTask}
 use Rattle.rules.specs.Step.{Lent, refused, stepOf, lentAfter, step}
 use Rattle.table_words.specs.Range.{good-table, remainders-high}
 use Rattle.table_words.specs.Layout.{bytes-length, words-of-bytes, remainders-small}
@@ -45,9 +44,8 @@ use Rattle.demands.specs.Tables.{state-of, bytes-small}
 use Rattle.demands.specs.Proof2.{same-split}
 use Rattle.demands.specs.Proof3.{listed-split}
 use Rattle.together.specs.Invariant.{Owns, by-left, by-right, Reserves, Unfinished, Inv, InPhase, at-rest}
-use Rattle.together.specs.Invariant.{at-home}
-use Rattle.together.specs.Invariant.{looks-left, looks-right, owns-left, owns-both, has-read, moving, marking}
-use Rattle.together.specs.Invariant.{frees-left, frees-right}
+use Rattle.together.specs.Invariant.{at-home, looks-left, looks-right, owns-left, owns-both, has-read, moving}
+use Rattle.together.specs.Invariant.{marking, frees-left, frees-right}
 use Rattle.together.specs.Update.{inv-update, task-same, task-other, same-or-not}
 use Rattle.together.specs.Facts.{words-size}
 use Rattle.together.specs.Fitting.{stage-fits}

@@ -16,8 +16,7 @@ use Rattle.rules.specs.Word.{Word, lockWord, withPayload}
 use Rattle.rules.specs.Shape.{remainders, keys}
 use Rattle.rules.specs.Entry.{Entry}
 use Rattle.rules.specs.Table.{at, occupiedPlaces}
-use Rattle.rules.specs.Record.{homePlaceOf, toPhase, withHand, withAnswer}
-use Rattle.rules.specs.Record.{taskAt}
+use Rattle.rules.specs.Record.{homePlaceOf, toPhase, withHand, withAnswer, taskAt}
 use Rattle.rules.specs.Phase as phase
 use Rattle.rules.specs.Phase.{to, neighbour, exchange, movesOn, marked}
 use Rattle.table_words.specs.Layout.{exchange-length}
@@ -28,13 +27,12 @@ use Rattle.theory.specs.Cut.{end, from, upTo}
 use Rattle.theory.specs.Motion.{toward, finish, Heads, rightward, leftward, heads, finish-move, finish-mark}
 use Rattle.theory.specs.Region.{finish-locks, finish-occupied, length-locks}
 use Rattle.demands.specs.Tables.{table-small}
-use Rattle.together.specs.Frames.{Within, at-set, at-other, finish-before, finish-after, locks-at}
-use Rattle.together.specs.Frames.{occupied-same, occupied-by}
-use Rattle.together.specs.Invariant.{Occupied, Looked, Moving, Owns, by-left, by-right, Reserves, Unfinished}
-use Rattle.together.specs.Invariant.{Inv, Ends, ends-found, ends-full, ends-inserted, RightEnd, right-found}
-use Rattle.together.specs.Invariant.{right-full}
-use Rattle.together.specs.Invariant.{right-waiting, right-filled, InPhase, at-rest, moving, marking, frees-left}
-use Rattle.together.specs.Invariant.{frees-right}
+use Rattle.together.specs.Frames.{Within, at-set, at-other, finish-before, finish-after, locks-at, occupied-same}
+use Rattle.together.specs.Frames.{occupied-by}
+use Rattle.together.specs.Invariant.{Occupied, Looked, Moving, Owns, by-left, by-right, Reserves, Unfinished, Inv}
+use Rattle.together.specs.Invariant.{Ends, ends-found, ends-full, ends-inserted, RightEnd, right-found}
+use Rattle.together.specs.Invariant.{right-full, right-waiting, right-filled, InPhase, at-rest, moving, marking}
+use Rattle.together.specs.Invariant.{frees-left, frees-right}
 use Rattle.together.specs.Stable.{word-of, from-ge, upTo-le, fills-as}
 use Rattle.together.specs.Update.{same-or-not}
 use Rattle.together.specs.Facts.{in-order, between-taken, plain-void}

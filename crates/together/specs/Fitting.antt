@@ -23,10 +23,9 @@ use Rattle.theory.specs.Gaps as gaps
 use Rattle.theory.specs.Gaps.{Side, HomePlace}
 use Rattle.theory.specs.Cut.{end, from, upTo}
 use Rattle.theory.specs.Moving.{smaller-inside, last-follows}
-use Rattle.together.specs.Invariant.{Looked, Fills, MayFill, Moving}
-use Rattle.together.specs.Invariant.{InPhase, at-rest, at-home, looks-left, looks-right, owns-left, owns-both}
-use Rattle.together.specs.Invariant.{has-read}
-use Rattle.together.specs.Invariant.{moving, marking, frees-left, frees-right}
+use Rattle.together.specs.Invariant.{Looked, Fills, MayFill, Moving, InPhase, at-rest, at-home, looks-left}
+use Rattle.together.specs.Invariant.{looks-right, owns-left, owns-both, has-read, moving, marking, frees-left}
+use Rattle.together.specs.Invariant.{frees-right}
 use Rattle.together.specs.Facts.{FitsHand, FitsBusy, fits-busy}
 
 -- ---- the goal that the read step names

@@ -15,10 +15,8 @@ use Rattle.rules.specs.Word.{Word, lockWord}
 use Rattle.rules.specs.Shape.{keys, rightGuard}
 use Rattle.rules.specs.Entry.{Entry, split}
 use Rattle.rules.specs.Table.{at, occupiedPlaces, entriesBetween}
-use Rattle.rules.specs.Lay.{holds}
-use Rattle.rules.specs.Record.{homePlaceOf}
-use Rattle.rules.specs.Record.{taskAt}
-use Rattle.rules.specs.Lay.{smaller, markOf}
+use Rattle.rules.specs.Lay.{holds, smaller, markOf}
+use Rattle.rules.specs.Record.{homePlaceOf, taskAt}
 use Rattle.theory.specs.Run.{unlock}
 use Rattle.theory.specs.Gaps as gaps
 use Rattle.theory.specs.Gaps.{Side, HomePlace, other}

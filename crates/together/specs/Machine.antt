@@ -9,9 +9,8 @@ use Rattle.rules.specs.declared.Shape.{Shape}
 use Rattle.rules.specs.declared.Task.{Task}
 use Rattle.rules.specs.Lists.{count, all}
 use Rattle.rules.specs.Answer.{Leaves, leaves}
-use Rattle.rules.specs.Record.{atRest}
+use Rattle.rules.specs.Record.{atRest, taskAt}
 use Rattle.rules.specs.Give.{give}
-use Rattle.rules.specs.Record.{taskAt}
 use Rattle.rules.specs.Step.{Lent, step}
 
 -- a give (task number, key) or a step (task number)

@@ -15,7 +15,6 @@ use Rattle.rules.specs.Shape.{remainders, places}
 use Rattle.rules.specs.Entry.{Entry}
 use Rattle.rules.specs.Table.{at, occupiedPlaces}
 use Rattle.rules.specs.Record.{taskAt}
-use Rattle.rules.specs.Record.{taskAt}
 use Rattle.table_words.specs.Layout.{same-words}
 use Rattle.theory.specs.Run.{unlock}
 use Rattle.theory.specs.Gaps as gaps
@@ -25,10 +24,9 @@ use Rattle.theory.specs.Locks.{occupied-unlock, at-unlock}
 use Rattle.together.specs.Frames.{Within, at-set, at-other}
 use Rattle.together.specs.Invariant.{Looked, FilledEnd, Owns, by-left, by-right, Reserves, Apart, Unfinished, Inv}
 use Rattle.together.specs.Invariant.{Ends, ends-found, ends-full, ends-inserted, RightEnd, right-found}
-use Rattle.together.specs.Invariant.{right-full, right-waiting}
-use Rattle.together.specs.Invariant.{right-filled, InPhase, at-rest, at-home, looks-left, looks-right, owns-left}
-use Rattle.together.specs.Invariant.{owns-both, has-read}
-use Rattle.together.specs.Invariant.{moving, marking, frees-left, frees-right}
+use Rattle.together.specs.Invariant.{right-full, right-waiting, right-filled, InPhase, at-rest, at-home}
+use Rattle.together.specs.Invariant.{looks-left, looks-right, owns-left, owns-both, has-read, moving, marking}
+use Rattle.together.specs.Invariant.{frees-left, frees-right}
 use Rattle.together.specs.Stable.{Frame, LetsAlone, stage-stable}
 use Rattle.together.specs.Update.{Steps, same-or-not}
 use Rattle.together.specs.Facts.{words-size}

@@ -2,34 +2,30 @@
 -- Assumes nothing.
 use Prim.Native.Nat.{ℕ, _+_, _≤_, _<_}
 use mathlib.Core.Path.{_≡_, refl, sym, ap, _∙_}
-use mathlib.Core.Logic.{_⊎_, inl, inr}
-use mathlib.Core.Bool.{Bool, true, false, cond, _&&_}
+use mathlib.Core.Logic.{_≢_, _⊎_, inl, inr}
+use mathlib.Core.Bool.{Bool, true, false}
 use mathlib.Core.List.{List}
 use native.Mathlib.Omega.{arith}
 use lib.ListN.{length}
-use lib.Dec.{eqb}
-use borrow.Author.Tests.{eqb-true, eqb-false}
 use Rattle.rules.specs.declared.Shape.{Shape}
 use Rattle.rules.specs.declared.Task.{Task}
 use Rattle.rules.specs.Word.{Word, lockWord, isVoid, isLock}
 use Rattle.rules.specs.Shape.{homes, remainders, keys, rightGuard}
 use Rattle.rules.specs.Entry.{Entry, split}
 use Rattle.rules.specs.Table.{at, occupiedPlaces, entriesBetween}
-use Rattle.rules.specs.Lay.{holds}
-use Rattle.rules.specs.Record.{homePlaceOf, toPhase, withHand, withGoal, withAnswer}
-use Rattle.rules.specs.Record.{taskAt}
+use Rattle.rules.specs.Lay.{holds, smaller, markOf}
+use Rattle.rules.specs.Record.{homePlaceOf, toPhase, withAnswer, taskAt}
 use Rattle.rules.specs.Phase as phase
-use Rattle.rules.specs.Phase.{to, readable, handOf, goalOf, readEntries}
-use Rattle.rules.specs.Lay.{smaller, markOf}
-use Rattle.theory.specs.Dealt.{and-both, and-left, and-right}
+use Rattle.rules.specs.Phase.{to, readable, readEntries, aimed, fillFrom}
+use Rattle.theory.specs.Dealt.{and-both}
+use Rattle.rules.specs.Room.{ToFill, onLeft, onRight, onNeither, whichEnd}
 use Rattle.theory.specs.Gaps as gaps
-use Rattle.theory.specs.Gaps.{AllTaken}
+use Rattle.theory.specs.Gaps.{AllTaken, Picks, picks-left, picks-right, picks-neither, picked}
 use Rattle.theory.specs.Places.{occupied-at}
 use Rattle.together.specs.Frames.{occupied-same}
 use Rattle.together.specs.Facts.{between-taken}
 use Rattle.together.specs.Invariant.{Looked, MayFill, Owns, by-left, by-right, Unfinished, Inv, InPhase, has-read}
-use Rattle.together.specs.Invariant.{frees-left}
-use Rattle.together.specs.Invariant.{ends-found, ends-full}
+use Rattle.together.specs.Invariant.{frees-left, ends-found, ends-full}
 use Rattle.together.specs.Update.{Steps}
 use Rattle.together.specs.Quiet.{still}
 use Rattle.together.specs.Around.{Around, around}
@@ -122,11 +118,9 @@ module _ {sh : Shape} {ws : List Word} {ts : List Task} {laid : List Word} {show
         next = toPhase 11 (withAnswer 1 t)
 
     -- between two guards all is occupied
-    all-taken : (eqb (t .left) 0 && eqb (t .right) (rightGuard sh)) ≡ true → AllTaken sh (occupiedPlaces laid)
+    all-taken : t .left ≡ 0 → t .right ≡ rightGuard sh → AllTaken sh (occupiedPlaces laid)
     unfolding rightGuard
-    all-taken guards q homeAt =
-        let l = eqb-true (t .left) 0 (and-left (eqb (t .left) 0) _ guards) in
-        let g = eqb-true (t .right) (homes sh + 1) (and-right (eqb (t .left) 0) _ guards) in
+    all-taken l g q homeAt =
         occupied-at laid q
         ∙ occupied-same laid ws q (sym (inv .places))
         ∙ between-taken x q (omega (arith, homeAt .first)) (omega (arith, homeAt .last))
@@ -134,95 +128,105 @@ module _ {sh : Shape} {ws : List Word} {ts : List Task} {laid : List Word} {show
     -- both ends are guards: full
     walk-full :
         holds e es ≡ false →
-        (eqb (t .left) 0 && eqb (t .right) (rightGuard sh)) ≡ true → Walked sh ws ts laid shown i
+        whichEnd sh (t .left) (t .right) ≡ onNeither →
+        AllTaken sh (occupiedPlaces laid) → Walked sh ws ts laid shown i
     unfolding readEntries
-    walk-full h guards =
+    walk-full h neither taken =
         record {
           next = next;
           words = ws;
           laid-after = laid;
           shown-after = shown;
-          step = step-by low inv i lt 7 (omega arith) (omega arith) p (due ∙ rw (h, guards));
+          step = step-by low inv i lt 7 (omega arith) (omega arith) p (due ∙ rw (h, neither));
           shows =
               kept next (omega arith) (omega arith) refl refl (inr (omega arith))
               (frees-left refl k (looked-as t next refl refl refl x) (ends-full refl left-held right-held));
           same-key = refl;
           ends = λ c. absurd (omega arith);
           begun = omega arith;
-          full = λ a. inr (all-taken guards, sym (see .same) ∙ h);
+          full = λ a. inr (taken, sym (see .same) ∙ h);
           effect = keeps (sym (weight-low t (omega arith)));
         }
       where
         next : Task
         next = toPhase 11 (withAnswer 3 t)
 
-    abbrev reading : Task
-    reading = toPhase 8 (withHand (handOf t) (withGoal (goalOf t (smaller e es)) (markOf e es) t))
+    -- the record that goes from an end to the key's place among the others
+    abbrev reading : ℕ → ℕ → Task
+    reading hand goal = aimed hand goal (markOf e es) t
 
-    is-ready :
-        holds e es ≡ false → (eqb (t .left) 0 && eqb (t .right) (rightGuard sh)) ≡ false → MayFill sh laid shown reading
-    unfolding handOf goalOf rightGuard homePlaceOf
-    is-ready h open-end = go (eqb (t .left) 0) refl
-      where
-        inner : (1 ≤ homePlaceOf sh t) × (homePlaceOf sh t ≤ homes sh)
-        inner = home-inside low inv i lt k
+    inner : (1 ≤ homePlaceOf sh t) × (homePlaceOf sh t ≤ homes sh)
+    inner = home-inside low inv i lt k
 
-        new : holds e shown ≡ false
-        new = sym (see .same) ∙ h
+    ready-left :
+        holds e es ≡ false → t .left ≢ 0 → MayFill sh laid shown (reading (t .left) (t .left + smaller e es))
+    unfolding homePlaceOf
+    ready-left h away =
+        record {
+          side = gaps.left;
+          fills = away;
+          room = record { first = omega arith; last = omega (arith, x .leftward .below, inner) };
+          hand = refl;
+          goal = refl;
+          mark = refl;
+          new = sym (see .same) ∙ h;
+        }
 
-        go : (b : Bool) → eqb (t .left) 0 ≡ b → MayFill sh laid shown reading
-        go true at-guard =
-            let zero-left = eqb-true (t .left) 0 at-guard in
-            let apart = eqb-false (t .right) (homes sh + 1) (rw at-guard at open-end) in
-            record {
-              side = gaps.right;
-              fills = zero-left;
-              room = record { first = omega (arith, x .above); last = omega (arith, x .inside, apart) };
-              hand = ap (λ (b : Bool). cond b (t .right) (t .left)) at-guard;
-              goal = ap (λ (b : Bool). cond b (smaller e es + 1) (t .left + smaller e es)) at-guard ∙ omega arith;
-              mark = refl;
-              new = new;
-            }
-        go false apart =
-            let away = eqb-false (t .left) 0 apart in
-            record {
-              side = gaps.left;
-              fills = away;
-              room = record { first = omega arith; last = omega (arith, x .leftward .below, inner) };
-              hand = ap (λ (b : Bool). cond b (t .right) (t .left)) apart;
-              goal = ap (λ (b : Bool). cond b (smaller e es + 1) (t .left + smaller e es)) apart;
-              mark = refl;
-              new = new;
-            }
+    ready-right :
+        holds e es ≡ false → t .left ≡ 0 → t .right ≢ rightGuard sh →
+        MayFill sh laid shown (reading (t .right) (smaller e es + 1))
+    unfolding rightGuard homePlaceOf
+    ready-right h zero-left apart =
+        record {
+          side = gaps.right;
+          fills = zero-left;
+          room = record { first = omega (arith, x .above); last = omega (arith, x .inside, apart) };
+          hand = refl;
+          goal = omega arith;
+          mark = refl;
+          new = sym (see .same) ∙ h;
+        }
 
     -- the key is new, and there is room: the fill may begin
     walk-ready :
-        holds e es ≡ false →
-        (eqb (t .left) 0 && eqb (t .right) (rightGuard sh)) ≡ false → Walked sh ws ts laid shown i
+        (hand goal : ℕ) → holds e es ≡ false →
+        fillFrom (whichEnd sh (t .left) (t .right)) (smaller e es) (markOf e es) t ≡ reading hand goal →
+        MayFill sh laid shown (reading hand goal) → Walked sh ws ts laid shown i
     unfolding readEntries
-    walk-ready h open-end =
+    walk-ready hand goal h fills may =
         record {
-          next = reading;
+          next = next;
           words = ws;
           laid-after = laid;
           shown-after = shown;
-          step = step-by low inv i lt 7 (omega arith) (omega arith) p (due ∙ rw (h, open-end));
+          step = step-by low inv i lt 7 (omega arith) (omega arith) p (due ∙ rw (h, fills));
           shows =
-              kept reading (omega arith) (omega arith) refl refl (inl (omega arith))
-              (has-read refl k (looked-as t reading refl refl refl x) left-held right-held (is-ready h open-end));
+              kept next (omega arith) (omega arith) refl refl (inl (omega arith))
+              (has-read refl k (looked-as t next refl refl refl x) left-held right-held may);
           same-key = refl;
           ends = λ c. absurd (omega arith);
           begun = omega arith;
           full = λ h. inl h;
-          effect = quiet-low low inv i lt reading (omega arith) (omega arith);
+          effect = quiet-low low inv i lt next (omega arith) (omega arith);
         }
+      where
+        next : Task
+        next = reading hand goal
 
     pub walk-read : Walked sh ws ts laid shown i
-    walk-read = go (holds e es) (eqb (t .left) 0 && eqb (t .right) (rightGuard sh)) refl refl
+    walk-read =
+        go (holds e es) (whichEnd sh (t .left) (t .right)) refl refl (picked sh (t .left) (t .right))
       where
+        filled : (w : ToFill) → whichEnd sh (t .left) (t .right) ≡ w →
+            fillFrom (whichEnd sh (t .left) (t .right)) (smaller e es) (markOf e es) t
+            ≡ fillFrom w (smaller e es) (markOf e es) t
+        filled w = ap (λ (v : ToFill). fillFrom v (smaller e es) (markOf e es) t)
+
         go :
-            (b c : Bool) →
-            holds e es ≡ b → (eqb (t .left) 0 && eqb (t .right) (rightGuard sh)) ≡ c → Walked sh ws ts laid shown i
-        go true c h g = walk-found h
-        go false true h g = walk-full h g
-        go false false h g = walk-ready h g
+            (b : Bool) (w : ToFill) →
+            holds e es ≡ b → whichEnd sh (t .left) (t .right) ≡ w → Picks sh (t .left) (t .right) w →
+            Walked sh ws ts laid shown i
+        go true w h g v = walk-found h
+        go false onLeft h g (picks-left away) = walk-ready _ _ h (filled onLeft g) (ready-left h away)
+        go false onRight h g (picks-right l r) = walk-ready _ _ h (filled onRight g) (ready-right h l r)
+        go false onNeither h g (picks-neither l r) = walk-full h g (all-taken l r)

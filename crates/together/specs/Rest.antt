@@ -19,8 +19,7 @@ use Rattle.rules.specs.Entry.{Entry, split, join, sameEntry}
 use Rattle.rules.specs.Table.{at, entries, list}
 use Rattle.rules.specs.Lay.{holds, ascend}
 use Rattle.rules.specs.Build.{puts}
-use Rattle.rules.specs.Record.{atRest}
-use Rattle.rules.specs.Record.{taskAt}
+use Rattle.rules.specs.Record.{atRest, taskAt}
 use Rattle.table_words.specs.Range.{InRange, good-table, remainders-high}
 use Rattle.table_words.specs.Layout.{bytes-are, same-bytes, same-words}
 use Rattle.theory.specs.Run.{unlock}
@@ -34,8 +33,8 @@ use Rattle.theory.specs.Building.{Inside, subset-length}
 use Rattle.demands.specs.Terms.{SoundTable, PlainTable, InKeys, entriesOf, listOf, distinct, putAll}
 use Rattle.demands.specs.Tables.{plain-of}
 use Rattle.demands.specs.Proof2.{split-keys, in-shape, listed-here, ascending-list}
-use Rattle.demands.specs.Proof3.{listed-split, held-key, keys-roomy, all-both, map-both, put-all-plain}
-use Rattle.demands.specs.Proof3.{ascending-keys, all-within}
+use Rattle.demands.specs.Proof3.{listed-split, held-key, keys-roomy, all-both, map-both, put-all-plain, ascending-keys}
+use Rattle.demands.specs.Proof3.{all-within}
 use Rattle.demands.specs.Demand2.{puts-any-order}
 use Rattle.together.specs.Invariant.{Unfinished}
 use Rattle.together.specs.Facts.{words-size, in-order}

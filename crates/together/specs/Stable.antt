@@ -14,9 +14,8 @@ use Rattle.rules.specs.Word.{Word, zeroWord, lockWord}
 use Rattle.rules.specs.Shape.{places, rightGuard}
 use Rattle.rules.specs.Entry.{Entry, split}
 use Rattle.rules.specs.Table.{at, between, entriesBetween, virginPlaces, deal}
-use Rattle.rules.specs.Lay.{holds}
+use Rattle.rules.specs.Lay.{holds, smaller, markOf}
 use Rattle.rules.specs.Record.{homePlaceOf}
-use Rattle.rules.specs.Lay.{smaller, markOf}
 use Rattle.theory.specs.Run.{unlock}
 use Rattle.theory.specs.Dealt.{word-path}
 use Rattle.theory.specs.Locks.{at-unlock}
@@ -27,11 +26,9 @@ use Rattle.theory.specs.Motion.{finish}
 use Rattle.theory.specs.Region.{finish-unlock}
 use Rattle.together.specs.Frames.{Within, finish-agree}
 use Rattle.together.specs.Invariant.{Occupied, LookedLeft, Looked, Fills, FilledEnd, MayFill, Moving, Owns}
-use Rattle.together.specs.Invariant.{by-left, by-right, Reserves}
-use Rattle.together.specs.Invariant.{Ends, ends-found, ends-full, ends-inserted, RightEnd, right-found}
-use Rattle.together.specs.Invariant.{right-full, right-waiting}
-use Rattle.together.specs.Invariant.{right-filled, InPhase, at-rest, at-home, looks-left, looks-right, owns-left}
-use Rattle.together.specs.Invariant.{owns-both, has-read}
+use Rattle.together.specs.Invariant.{by-left, by-right, Reserves, Ends, ends-found, ends-full, ends-inserted}
+use Rattle.together.specs.Invariant.{RightEnd, right-found, right-full, right-waiting, right-filled, InPhase}
+use Rattle.together.specs.Invariant.{at-rest, at-home, looks-left, looks-right, owns-left, owns-both, has-read}
 use Rattle.together.specs.Invariant.{moving, marking, frees-left, frees-right}
 
 -- what a step changes: words, locks aside, and words laid only at the places touched; no place is emptied and no

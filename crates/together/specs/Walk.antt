@@ -18,8 +18,7 @@ use Rattle.rules.specs.Shape.{homes, remainders, keys, places, rightGuard}
 use Rattle.rules.specs.Entry.{Entry, split}
 use Rattle.rules.specs.Table.{at, occupiedPlaces}
 use Rattle.rules.specs.Lay.{holds, insert}
-use Rattle.rules.specs.Record.{homePlaceOf, within, atRest, toPhase, withLeft, withRight}
-use Rattle.rules.specs.Record.{taskAt}
+use Rattle.rules.specs.Record.{homePlaceOf, within, atRest, toPhase, withLeft, withRight, taskAt, again}
 use Rattle.rules.specs.Phase as phase
 use Rattle.rules.specs.Phase.{Step, to}
 use Rattle.rules.specs.Step.{ofPhase, steps, orUnsound, stepOf}
@@ -35,10 +34,8 @@ use Rattle.theory.specs.Building.{after-put}
 use Rattle.together.specs.Stable.{word-of}
 use Rattle.together.specs.Frames.{Within}
 use Rattle.together.specs.Invariant.{Occupied, LookedLeft, Looked, Owns, by-left, by-right, Reserves, Apart}
-use Rattle.together.specs.Invariant.{Unfinished, Inv}
-use Rattle.together.specs.Invariant.{Moving, InPhase, at-rest, at-home, looks-left, looks-right, owns-left}
-use Rattle.together.specs.Invariant.{owns-both}
-use Rattle.together.specs.Invariant.{has-read, moving, marking, frees-left, frees-right}
+use Rattle.together.specs.Invariant.{Unfinished, Inv, Moving, InPhase, at-rest, at-home, looks-left, looks-right}
+use Rattle.together.specs.Invariant.{owns-left, owns-both, has-read, moving, marking, frees-left, frees-right}
 use Rattle.together.specs.Update.{Steps, same-or-not}
 use Rattle.together.specs.Facts.{in-order, between-taken, words-size, guards-free, guards-void}
 use Rattle.together.specs.Fitting.{stage-fits}
@@ -237,17 +234,17 @@ module _ {sh : Shape} {ws : List Word} {ts : List Task} {laid : List Word} {show
     unfolding phase.home
     walk-stay p k locked =
         record {
-          next = t;
+          next = again t;
           words = ws;
           laid-after = laid;
           shown-after = shown;
           step = step-by 1 (omega arith) (omega arith) p (rw locked);
-          shows = free-step t (omega arith) (omega arith) (at-home p k);
+          shows = free-step (again t) (omega arith) (omega arith) (at-home refl k);
           same-key = refl;
           ends = λ e. absurd (omega arith);
           begun = omega arith;
           full = λ h. inl h;
-          effect = keeps refl;
+          effect = quiet-low (again t) (omega arith) (omega arith);
         }
 
     -- an occupied, unlocked home: the look to the left begins
@@ -434,17 +431,17 @@ module _ {sh : Shape} {ws : List Word} {ts : List Task} {laid : List Word} {show
     unfolding phase.lockLeft
     walk-again p k other =
         record {
-          next = toPhase 1 t;
+          next = again t;
           words = ws;
           laid-after = laid;
           shown-after = shown;
           step = step-by 4 (omega arith) (omega arith) p (rw other);
-          shows = free-step (toPhase 1 t) (omega arith) (omega arith) (at-home refl k);
+          shows = free-step (again t) (omega arith) (omega arith) (at-home refl k);
           same-key = refl;
           ends = λ e. absurd (omega arith);
           begun = omega arith;
           full = λ h. inl h;
-          effect = quiet-low (toPhase 1 t) (omega arith) (omega arith);
+          effect = quiet-low (again t) (omega arith) (omega arith);
         }
 
     -- a place at or before the right guard is in the table
@@ -676,7 +673,7 @@ module _ {sh : Shape} {ws : List Word} {ts : List Task} {laid : List Word} {show
     unfolding phase.backOff relocked
     walk-back p k x =
         record {
-          next = toPhase 1 t;
+          next = again t;
           words = relocked ws (t .left) false inside;
           laid-after = laid;
           shown-after = shown;
@@ -684,7 +681,7 @@ module _ {sh : Shape} {ws : List Word} {ts : List Task} {laid : List Word} {show
           shows =
               relock
               i
-              (toPhase 1 t)
+              (again t)
               low
               inv
               (t .left)
@@ -695,7 +692,7 @@ module _ {sh : Shape} {ws : List Word} {ts : List Task} {laid : List Word} {show
               (λ u a s.
               record {
                 owners = λ q o v. owns-none q (omega arith) o;
-                stretches = λ (r : Reserves (toPhase 1 t)) v q m n. absurd (omega (arith, r .from-7));
+                stretches = λ (r : Reserves (again t)) v q m n. absurd (omega (arith, r .from-7));
               })
               (λ q n o. absurd (gone q n o))
               (λ e. absurd (false≢true e))
@@ -704,7 +701,7 @@ module _ {sh : Shape} {ws : List Word} {ts : List Task} {laid : List Word} {show
           ends = λ e. absurd (omega arith);
           begun = omega arith;
           full = λ h. inl h;
-          effect = quiet-low (toPhase 1 t) (omega arith) (omega arith);
+          effect = quiet-low (again t) (omega arith) (omega arith);
         }
       where
         inside : t .left < length ws

@@ -54,8 +54,8 @@ use Rattle.task_records.proofs.After.Laws as after-laws
 use Rattle.task_records.proofs.Records.{task-vals, task-tells, task-makes, task-typed, done-makes, done-typed}
 use Rattle.task_records.proofs.Records.{after-tells, after-typed, after-task, after-done, index-fits, index-at}
 use Rattle.task_records.proofs.Records.{lent-at, shuts}
-use Rattle.task_records.proofs.Walk.{v32, v64, num, num-goes, held, field-of, sets, resets, parts, number, answers}
-use Rattle.task_records.proofs.Walk.{entries, frees-all}
+use Rattle.task_records.proofs.Walk.{v32, v64, num, num-goes, held, field-of, sets, resets, parts, number}
+use Rattle.task_records.proofs.Walk.{answers, entries, frees-all}
 use Rattle.task_records.proofs.step_at as at
 use Rattle.task_records.proofs.step_at.Symbol as at-def
 use Rattle.task_records.proofs.step_at.Symbol.{name as #at}

@@ -53,10 +53,10 @@ use Rattle.task_records.specs.declared.Kept.{Kept}
 use Rattle.task_records.specs.Calls.{stepNone, stepAll, step-few, step-many}
 use Rattle.task_records.proofs.Kept.{the-row as kept}
 use Rattle.task_records.proofs.Records.{task-vals, done-typed}
-use Rattle.task_records.proofs.Front.{Sixteen, slice-at, lends-front, front-back, kept-is, kept-typed, kept-makes}
-use Rattle.task_records.proofs.Front.{sixteen-typed, sixteen-tells, sixteen-makes}
-use Rattle.task_records.proofs.Walk.{v32, v64, num, num-goes, held, field-of, sets, parts, number, answers, entries}
-use Rattle.task_records.proofs.Walk.{frees-all}
+use Rattle.task_records.proofs.Front.{Sixteen, slice-at, lends-front, front-back, kept-is, kept-typed}
+use Rattle.task_records.proofs.Front.{kept-makes, sixteen-typed, sixteen-tells, sixteen-makes}
+use Rattle.task_records.proofs.Walk.{v32, v64, num, num-goes, held, field-of, sets, parts, number, answers}
+use Rattle.task_records.proofs.Walk.{entries, frees-all}
 use Rattle.task_records.proofs.step as step
 use Rattle.task_records.proofs.step.Symbol as step-def
 use Rattle.task_records.proofs.step.Symbol.{name as #step}

@@ -2,7 +2,8 @@
 -- Assumes nothing.
 use borrow.Author.Needs.{needs}
 use native.Mathlib.Omega.{arith}
-use Rattle.frame_digits.specs.Read.{figure, capital, small, before-figures, before-capitals, before-small, after-small}
+use Rattle.frame_digits.specs.Read.{figure, capital, small, before-figures, before-capitals, before-small}
+use Rattle.frame_digits.specs.Read.{after-small}
 use Rattle.frame_digits.proofs.read.digit.Statement.{statement}
 use Rattle.frame_digits.proofs.read.digit.Tie as tie
 
