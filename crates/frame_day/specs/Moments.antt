@@ -9,7 +9,7 @@ use mathlib.Core.List.{List, [], _∷_, _++_}
 use native.Mathlib.Omega.{arith}
 use lib.ListN.{length, getD, set, replicate, length-set, length-replicate}
 use lib.Dec.{eqb, leb, ltb}
-use borrow.Author.Tests.{le-leb, leb-true, lt-ltb, ltb-true}
+use borrow.Author.Tests.{leb-true, lt-ltb, ltb-true}
 use Rattle.rules.specs.declared.Task.{Task}
 use Rattle.rules.specs.Lists.{count, all}
 use Rattle.rules.specs.Bytes.{wordsOf, bytesOf}
@@ -20,8 +20,8 @@ use Rattle.rules.specs.Give.{given, noTask, taskAt, goodTask, giveTo, give}
 use Rattle.rules.specs.Step.{lentAfter, step}
 use Rattle.table_words.specs.Range.{good-table, remainders-high, range-in}
 use Rattle.table_words.specs.All.{all-at}
-use Rattle.table_words.specs.Busy.{rest-not-busy, fits-works}
-use Rattle.theory.specs.Dealt.{and-left, and-right, and-both}
+use Rattle.table_words.specs.Busy.{good-task, rest-not-busy, fits-works}
+use Rattle.theory.specs.Dealt.{and-left, and-right}
 use Rattle.demands.specs.Terms.{PlainTable, InKeys}
 use Rattle.frame_rules.specs.Rounds as rounds-of
 use Rattle.frame_rules.specs.Rounds.{Floor, start, turn, turns, round, rounds, allAnswered, limit, play}
@@ -116,13 +116,7 @@ module _ {m r : ℕ} {bytes : List ℕ} (n : ℕ) (ks : List ℕ) (t : PlainTabl
       here = omega (arith, now .crew)
 
       good-number : goodTask (f .tasks) i ≡ true
-      unfolding goodTask
-      good-number =
-          and-both
-          _
-          _
-          (le-leb (length (f .tasks)) 16 (fair .few))
-          (lt-ltb i (length (f .tasks)) here)
+      good-number = good-task (f .tasks) i (fair .few) here
 
       -- ---- a task at rest takes the next key
       module _ (rest : atRest (taskAt (f .tasks) i) ≡ true) (more : f .taken < length ks) where

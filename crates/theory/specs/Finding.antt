@@ -16,6 +16,7 @@ use Rattle.rules.specs.Table.{at, occupiedPlaces, leftGap, rightGap, cluster, s
 use Rattle.rules.specs.Lay.{holds}
 use Rattle.rules.specs.Answer.{says}
 use Rattle.rules.specs.Find.{around, soundAround, lockedAround, findIn}
+use Rattle.table_words.specs.Tests.{refuted}
 use Rattle.theory.specs.Run.{Asc}
 use Rattle.theory.specs.Dealt.{isOccupied, and-both}
 use Rattle.theory.specs.RunLaws.{run-is-sound, run-occupied, run-entries}
@@ -28,11 +29,7 @@ use Rattle.theory.specs.SoundTable.{table-guards, nothing-sound}
 
 -- ---- who has an entry
 pub holds-right : {d c b : ℕ} {es : List Entry} (e : Entry) → Asc d c b es → c ≤ e .homePlace → holds e es ≡ false
-holds-right {es = es} e up le = go (holds e es) refl
-  where
-    go : (b : Bool) → holds e es ≡ b → holds e es ≡ false
-    go true t = let w = held-all e (asc-all up) t in absurd (omega (arith, w .inside))
-    go false t = t
+holds-right {es = es} e up le = refuted (holds e es) (λ t. omega (arith, held-all e (asc-all up) t .inside))
 
 -- ---- the surroundings of a home
 pub record Surroundings (sh : Shape) (ws : List Word) (es : List Entry) (e : Entry) : Type 0 where

@@ -27,6 +27,7 @@ use Rattle.rules.specs.Give.{taskAt}
 use Rattle.rules.specs.Phase as phase
 use Rattle.rules.specs.Phase.{to, unsound, aloneWord, smaller, markOf, movesOn}
 use Rattle.table_words.specs.Split.{split-in-shape}
+use Rattle.table_words.specs.Tests.{refuted}
 use Rattle.theory.specs.Run.{unlock}
 use Rattle.theory.specs.Dealt.{or-left, or-right}
 use Rattle.theory.specs.Locks.{at-unlock}
@@ -99,12 +100,10 @@ plain-unlocked {laid = laid} q s =
 
 -- another key's entry is as much held as before
 pub held-other : (e f : Entry) (es : List Entry) → (e .homePlace ≢ f .homePlace) → holds f (insert e es) ≡ holds f es
-held-other e f es apart =
-    holds-insert f e es ∙ ap (λ (b : Bool). b || holds f es) (go (sameEntry f e) refl)
+held-other e f es apart = holds-insert f e es ∙ ap (λ (b : Bool). b || holds f es) other
   where
-    go : (b : Bool) → sameEntry f e ≡ b → sameEntry f e ≡ false
-    go true h = absurd (apart (ap (λ (x : Entry). x .homePlace) (sym (same-eq f e h))))
-    go false h = h
+    other : sameEntry f e ≡ false
+    other = refuted (sameEntry f e) (λ h. apart (ap (λ (x : Entry). x .homePlace) (sym (same-eq f e h))))
 
 pub held-now : (e : Entry) (es : List Entry) → holds e (insert e es) ≡ true
 held-now e es = holds-insert e e es ∙ or-left _ _ (same-refl e)
