@@ -23,6 +23,7 @@ use Rattle.rules.specs.Put.{addAt, Outcome, writes, putIn, bytesAfter, put}
 use Rattle.table_words.specs.Range.{InRange, good-table}
 use Rattle.table_words.specs.Split.{InShape, split-in-shape, join-split, split-join}
 use Rattle.table_words.specs.Layout.{same-bytes}
+use Rattle.table_words.specs.Tests.{refuted}
 use Rattle.theory.specs.Every as every
 use Rattle.theory.specs.Every.{All}
 use Rattle.theory.specs.Gaps.{HomePlace, AllTaken, room-full, full-room}
@@ -122,17 +123,15 @@ same-split sh x key = go (eqb x key) refl
   where
     go : (b : Bool) → eqb x key ≡ b → sameEntry (split sh x) (split sh key) ≡ b
     go true e = ap (λ (k : ℕ). sameEntry (split sh x) (split sh k)) (sym (eqb-true x key e)) ∙ same-refl (split sh x)
-    go false e = go′ (sameEntry (split sh x) (split sh key)) refl
-      where
-        go′ : (b : Bool) → sameEntry (split sh x) (split sh key) ≡ b → b ≡ false
-        go′ true s =
-            absurd
-            (eqb-false
-            x
-            key
-            e
-            (sym (join-split sh x) ∙ ap (join sh) (same-eq (split sh x) (split sh key) s) ∙ join-split sh key))
-        go′ false s = refl
+    go false e =
+        refuted
+        (sameEntry (split sh x) (split sh key))
+        (λ s.
+        eqb-false
+        x
+        key
+        e
+        (sym (join-split sh x) ∙ ap (join sh) (same-eq (split sh x) (split sh key) s) ∙ join-split sh key))
 
 -- ---- put
 module _ {sh : Shape} {bytes : List ℕ} (t : PlainTable sh bytes) (key : ℕ) (lt : key < keys sh) where

@@ -9,8 +9,8 @@ use mathlib.Core.List.{List, [], _∷_, _++_}
 use native.Mathlib.Omega.{arith}
 use lib.ListN.{length, getD, set, replicate, length-set, length-replicate}
 use lib.Dec.{eqb, leb, ltb}
-use borrow.Author.Tests.{le-leb, leb-true, lt-ltb, ltb-true}
 use Rattle.rules.specs.declared.Shape.{Shape}
+use borrow.Author.Tests.{leb-true, lt-ltb, ltb-true}
 use Rattle.rules.specs.declared.Task.{Task}
 use Rattle.rules.specs.Lists.{count, all}
 use Rattle.rules.specs.Bytes.{wordsOf, bytesOf}
@@ -21,8 +21,8 @@ use Rattle.rules.specs.Give.{given, giveTo, give}
 use Rattle.rules.specs.Step.{lentAfter, step}
 use Rattle.table_words.specs.Range.{good-table, remainders-high, range-in}
 use Rattle.table_words.specs.All.{all-at}
-use Rattle.table_words.specs.Busy.{rest-not-busy, fits-works}
-use Rattle.theory.specs.Dealt.{and-left, and-right, and-both}
+use Rattle.table_words.specs.Busy.{good-task, rest-not-busy, fits-works}
+use Rattle.theory.specs.Dealt.{and-left, and-right}
 use Rattle.demands.specs.Terms.{PlainTable, InKeys}
 use Rattle.frame_rules.specs.declared.First.{First}
 use Rattle.frame_rules.specs.Rounds as rounds-of
@@ -106,7 +106,7 @@ module _ (f : First) {bytes : List ℕ} (ks : List ℕ) (t : PlainTable (f .shap
           beside = beside-start bytes (f .tasks) ks;
         }
 
-    module _ {floor : Floor} (now : Moment f bytes ks floor) (i : ℕ) (lt : i < (f .tasks)) where
+    module _ {floor : Floor} (now : Moment f bytes ks floor) (i : ℕ) (lt : i < f .tasks) where
       abbrev w : World
       w = world floor (now .accepted) (now .said)
 
@@ -117,13 +117,7 @@ module _ (f : First) {bytes : List ℕ} (ks : List ℕ) (t : PlainTable (f .shap
       here = omega (arith, now .crew)
 
       good-number : goodTask (floor .tasks) i ≡ true
-      unfolding goodTask
-      good-number =
-          and-both
-          _
-          _
-          (le-leb (length (floor .tasks)) 16 (fair .few))
-          (lt-ltb i (length (floor .tasks)) here)
+      good-number = good-task (floor .tasks) i (fair .few) here
 
       -- ---- a task at rest takes the next key
       module _ (rest : atRest (taskAt (floor .tasks) i) ≡ true) (more : floor .taken < length ks) where

@@ -10,7 +10,7 @@ use native.Mathlib.Omega.{arith}
 use lib.ListN.{length, getD, set}
 use lib.Seq.{set-getD, set-out, getD-set-same}
 use lib.Dec.{ltb, eqb}
-use borrow.Author.Tests.{lt-ltb, le-ltb, le-leb, ne-eqb}
+use borrow.Author.Tests.{lt-ltb, le-ltb, ne-eqb}
 use Rattle.rules.specs.declared.Task.{Task}
 use Rattle.rules.specs.declared.Turn.{Turn}
 use Rattle.rules.specs.declared.Turn.the-variants.{Next, Refused}
@@ -19,6 +19,7 @@ use Rattle.rules.specs.Answer.{Leaves, leaves, turnSays}
 use Rattle.rules.specs.Give.{storedAt, give}
 use Rattle.rules.specs.Step.{step}
 use Rattle.task_step.specs.Given.{giveOne, give-one}
+use Rattle.table_words.specs.Busy.{good-task}
 use Rattle.task_step.specs.Stepping.{Left, stepSays, stepOne, lentOf, step-one}
 use Rattle.frame_rules.specs.Lines.{keysOf}
 use Rattle.frame_rules.specs.Rounds.{Floor, afterTake, afterStep, turn}
@@ -82,8 +83,7 @@ putBack f i x =
 
 module _ (m r : ℕ) (ks : List ℕ) (i : ℕ) (f : Floor) (here : i < length (f .tasks)) (few : length (f .tasks) ≤ 16) where
   good : goodTask (f .tasks) i ≡ true
-  unfolding goodTask
-  good = rw (le-leb (length (f .tasks)) 16 few, lt-ltb i (length (f .tasks)) here)
+  good = good-task (f .tasks) i few here
 
   -- a task and a number that stay as they were are put back as they were
   put-same : f ≡ putBack f i (sat (f .table) (f .answers) (sittingAt f i))

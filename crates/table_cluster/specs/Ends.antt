@@ -16,9 +16,10 @@ use Rattle.rules.specs.Bytes.{wordsOf}
 use Rattle.rules.specs.Table.{at, between, occupiedPlaces, leftGap, rightGap}
 use Rattle.table_words.specs.Counts.{count-le, count-append}
 use Rattle.theory.specs.Dealt.{isChange, isVirgin, isOccupied}
-use Rattle.theory.specs.Gaps.{leftGap-is, rightGap-is}
+use Rattle.theory.specs.Gaps as gaps
+use Rattle.theory.specs.Gaps.{leftGap-is, rightGap-is, own-gap}
 use Rattle.theory.specs.Places.{occupied-at, occupied-length}
-use Rattle.table_cluster.specs.Scan.{words-count, left-step, left-stop, right-step, right-stop}
+use Rattle.table_cluster.specs.Scan.{words-count, left-step, right-step}
 use Rattle.table_cluster.specs.Run.{run-step, run-end, run-last}
 use Rattle.table_cluster.specs.declared.gaps.End.{End}
 
@@ -100,11 +101,6 @@ pub some-before : (ws : List Word) (i : ℕ) → at ws 0 .occupied ≡ false →
 some-before ws zero free full = absurd (true≢false (sym full ∙ free))
 some-before ws (suc i) free full = omega arith
 
-own-left : (os : List Bool) (i : ℕ) → getD os i false ≡ false → leftGap os i ≡ i
-unfolding leftGap
-own-left os zero free = refl
-own-left os (suc i) free = left-stop os (suc i) (omega arith) free
-
 -- ---- to the left: a place that is reached from the home, with the bits of the words between
 pub record Leftward (bs : List ℕ) (homeAt i n m : ℕ) : Type 0 where
   pub inside : 2 * homeAt + 1 < length bs
@@ -145,7 +141,7 @@ module _ {bs : List ℕ} {homeAt i n m : ℕ} (here : Leftward bs homeAt i n m) 
   left-ends word free =
       rw (
         ← here .gap,
-        own-left (occupiedPlaces (wordsOf bs)) i (occupied-here bs i w word free),
+        own-gap gaps.left (occupiedPlaces (wordsOf bs)) i (occupied-here bs i w word free),
         here .counted .virgins,
         here .counted .changes,
         add-one i,
@@ -216,7 +212,7 @@ module _ {bs : List ℕ} {homeAt i n m : ℕ} (here : Rightward bs homeAt i n m)
   right-ends word free =
       rw (
         ← here .gap,
-        right-stop (occupiedPlaces (wordsOf bs)) i within (occupied-here bs i w word free),
+        own-gap gaps.right (occupiedPlaces (wordsOf bs)) i (occupied-here bs i w word free),
         here .counted .virgins,
         here .counted .changes,
       )

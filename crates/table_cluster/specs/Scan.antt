@@ -1,4 +1,5 @@
--- The gaps on the two sides of a place, found from place to place: a step and the stop of each search.
+-- The gaps on the two sides of a place, found from place to place: a step of each search, and the end of a table.
+-- An unoccupied place, where they stop, is its own gap: the theory's `own-gap`.
 -- Assumes nothing.
 use Prim.Native.Nat.{ℕ, zero, suc, _+_, _-_, _/_, _≤_, _<_}
 use mathlib.Core.Path.{_≡_, refl}
@@ -26,19 +27,10 @@ module _ (os : List Bool) where
   left-step zero h t = absurd (omega arith)
   left-step (suc i) h t = let back : suc i - 1 ≡ i = omega arith in rw (back, t)
 
-  pub left-stop : (i : ℕ) → 0 < i → getD os i false ≡ false → leftGap os i ≡ i
-  unfolding leftGap
-  left-stop zero h t = absurd (omega arith)
-  left-stop (suc i) h t = rw t
-
   -- to the right
   pub right-step : (i : ℕ) → i < length os → getD os i false ≡ true → rightGap os (i + 1) ≡ rightGap os i
   unfolding rightGap lead
   right-step i h t = rw (add-one, drop-cons os i false h, t) (omega arith)
-
-  pub right-stop : (i : ℕ) → i < length os → getD os i false ≡ false → rightGap os i ≡ i
-  unfolding rightGap lead
-  right-stop i h t = rw (drop-cons os i false h, t) (add-zero i)
 
   pub right-end : (i : ℕ) → length os ≤ i → rightGap os i ≡ i
   unfolding rightGap lead

@@ -6,10 +6,10 @@
 use Prim.Native.Nat.{ℕ, suc, _+_, _*_, _≤_, _<_}
 use mathlib.Core.Path.{_≡_, refl, sym, _∙_, ap, ap₂}
 use mathlib.Core.Bool.{Bool, true, false, _&&_, or-false}
-use mathlib.Core.List.{List, []}
+use mathlib.Core.List.{List}
 use native.Mathlib.Numerals.{add-one}
 use native.Mathlib.Omega.{arith}
-use lib.ListN.{length, take, drop-of-length-le, length-take}
+use lib.ListN.{length}
 use lib.Seq.{slice-cons, slice-empty}
 use Rattle.rules.specs.declared.Shape.{Shape}
 use Rattle.rules.specs.Lists.{count, all, any}
@@ -18,7 +18,7 @@ use Rattle.rules.specs.Bytes.{wordsOf}
 use Rattle.rules.specs.Shape.{places}
 use Rattle.rules.specs.Entry.{Entry}
 use Rattle.rules.specs.Table.{at, occupiedPlaces, leftGap, rightGap, between, cluster, soundRun, guardsVoid, locked}
-use Rattle.rules.specs.Table.{endsInChange, rising, deal, entriesBetween, clusterEntries}
+use Rattle.rules.specs.Table.{endsInChange, rising, clusterEntries}
 use Rattle.rules.specs.Find.{around, soundAround, lockedAround}
 use Rattle.table_words.specs.Range.{InRange, homes-high}
 use Rattle.table_words.specs.Layout.{words-length}
@@ -27,9 +27,8 @@ use Rattle.theory.specs.Gaps.{HomePlace}
 use Rattle.theory.specs.Keys.{home-place}
 use Rattle.theory.specs.Dealt.{isVirgin, isChange, isOccupied, and-left, and-right}
 use Rattle.theory.specs.Cut.{CutHome, cut-home}
-use Rattle.theory.specs.Places.{left-free, occupied-at, occupied-length}
+use Rattle.theory.specs.Places.{left-free, gap-left, gap-right, gap-cluster}
 use Rattle.table_cluster.specs.Homes.{Housed, sound-housed}
-use Rattle.table_cluster.specs.Scan.{left-stop, right-stop}
 use Rattle.table_read.specs.Read.{readOf}
 use Rattle.table_cluster.specs.Ends.{leftEnd, rightEnd}
 use Rattle.table_read.specs.FromLeft.{LeftCounted, readFrom, read-from, housed-beside}
@@ -66,24 +65,11 @@ module _ (sh : Shape) (ws : List Word) (homeAt : ℕ) where
 
     -- an unoccupied home is its own gap on both sides, with nothing between
     module _ (size : length ws ≡ places sh) (h : HomePlace sh homeAt) (empty : at ws homeAt .occupied ≡ false) where
-      own-left : leftGap (occupiedPlaces ws) homeAt ≡ homeAt
-      own-left = left-stop (occupiedPlaces ws) homeAt (h .first) (occupied-at ws homeAt ∙ empty)
-
-      own-right : rightGap (occupiedPlaces ws) homeAt ≡ homeAt
-      unfolding places
-      own-right =
-          right-stop
-          (occupiedPlaces ws)
-          homeAt
-          (omega (arith, occupied-length ws, size, h .last))
-          (occupied-at ws homeAt ∙ empty)
-
-      none-between : between ws homeAt homeAt ≡ []
-      none-between = drop-of-length-le (take homeAt ws) {i = suc homeAt} (omega (arith, length-take homeAt ws))
-
       pub alone-sound : soundAround sh ws homeAt ≡ isVoid (at ws homeAt)
-      unfolding soundAround cluster soundRun count all rising endsInChange
-      alone-sound = rw (void, own-left, own-right, none-between) (twice (isVoid (at ws homeAt)))
+      unfolding soundAround soundRun count all rising endsInChange
+      alone-sound =
+          rw (void, gap-cluster ws homeAt empty, gap-left ws homeAt empty, gap-right ws homeAt empty)
+          (twice (isVoid (at ws homeAt)))
         where
           twice : (v : Bool) → (v && v && true) ≡ v
           twice true = refl
@@ -93,16 +79,12 @@ module _ (sh : Shape) (ws : List Word) (homeAt : ℕ) where
       unfolding lockedAround around locked any places
       alone-locked =
           rw (
-            own-left,
-            own-right,
+            gap-left ws homeAt empty,
+            gap-right ws homeAt empty,
             slice-cons homeAt (suc homeAt) ws zeroWord (omega arith) (omega (arith, size, h .last)),
             slice-empty (suc homeAt) ws,
           )
           (or-false (at ws homeAt .lock))
-
-      pub alone-entries : clusterEntries ws homeAt ≡ []
-      unfolding clusterEntries entriesBetween deal
-      alone-entries = rw (own-left, own-right, none-between)
 
 -- ---- a cluster, and a read of it from its left end
 pub record Inside (sh : Shape) (ws : List Word) (homeAt : ℕ) : Type 0 where

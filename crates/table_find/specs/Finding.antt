@@ -14,7 +14,8 @@ use Rattle.rules.specs.Lay.{holds}
 use Rattle.rules.specs.Answer.{Answer, says, refuses}
 use Rattle.rules.specs.Find.{soundAround, lockedAround, findIn}
 use Rattle.theory.specs.Gaps.{HomePlace}
-use Rattle.table_find.specs.Around.{Open, around-barred, alone-sound, alone-locked, alone-entries}
+use Rattle.theory.specs.Places.{gap-entries}
+use Rattle.table_find.specs.Around.{Open, around-barred, alone-sound, alone-locked}
 
 -- at an empty home, by its word
 abbrev pub aloneSays : Word → Answer
@@ -33,7 +34,7 @@ module _ (sh : Shape) (ws : List Word) (e : Entry) where
       rw (
         alone-sound sh ws (e .homePlace) void size h empty,
         alone-locked sh ws (e .homePlace) void size h empty,
-        alone-entries sh ws (e .homePlace) void size h empty,
+        gap-entries ws (e .homePlace) empty,
       )
 
   pub found-unsound : soundAround sh ws (e .homePlace) ≡ false → findIn sh ws e ≡ refuses 6

@@ -28,15 +28,14 @@ use Rattle.table_words.specs.Layout.{same-bytes, bytes-are}
 use Rattle.table_words.specs.declared.place.Place.{Place}
 use Rattle.theory.specs.Gaps as gaps
 use Rattle.theory.specs.Gaps.{picks-left, picks-right, picks-neither, picked-only}
-use Rattle.theory.specs.Places.{occupied-at}
+use Rattle.theory.specs.Places.{occupied-at, gap-entries}
 use Rattle.theory.specs.Motion.{fillAt, finish}
 use Rattle.theory.specs.Moving.{Addable, smaller-inside, add-moves, room-alone, add-alone}
 use Rattle.table_read.specs.declared.read.Read.{Read}
 use Rattle.table_read.specs.Read.{readOf}
 use Rattle.table_cluster.specs.Ends.{leftEnd}
 use Rattle.table_cluster.specs.declared.gaps.End.{End}
-use Rattle.table_find.specs.Around.{Open, open-guards, around-barred, alone-sound, alone-locked, alone-entries, Inside}
-use Rattle.table_find.specs.Around.{cluster-inside}
+use Rattle.table_find.specs.Around.{Open, around-barred, alone-sound, alone-locked, Inside, cluster-inside}
 use Rattle.theory.specs.Keys.{home-place}
 
 -- the answer of an outcome with the words that it leaves
@@ -111,7 +110,7 @@ module _ (sh : Shape) (ws : List Word) (e : Entry)
     pub put-alone : Open sh ws (e .homePlace) → at ws (e .homePlace) .occupied ≡ false → putIn sh ws e ≡ putAlone ws e
     unfolding putIn roomFor holds any
     put-alone o empty =
-        let none = alone-entries sh ws (e .homePlace) (open-guards o) size (home-place i) empty in
+        let none = gap-entries ws (e .homePlace) empty in
         let a = addable range i size o (ap (holds e) none) in
         rw (o .sound, o .free, none, room-alone a empty, add-alone a empty)
 

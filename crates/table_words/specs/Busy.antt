@@ -1,16 +1,23 @@
 -- A record at rest or busy, by its phase. `resting` to `done-or-beyond`: the tests by the phase; `rest-phase`,
 -- `works-phase`: the phase by the test. `rest-not-busy`, `fits-works`: what the tests tell of one another.
+-- `good-task`: one of at most sixteen records has a good number.
 -- Assumes nothing.
-use Prim.Native.Nat.{_≤_, _<_}
+use Prim.Native.Nat.{ℕ, _≤_, _<_}
 use mathlib.Core.Path.{_≡_, refl}
 use mathlib.Core.Bool.{Bool, true, false, _||_, and-eq-true-iff, true≢false, false≢true}
 use mathlib.Core.Logic.{_⊎_, inl, inr}
+use mathlib.Core.List.{List}
 use native.Mathlib.Omega.{arith}
+use lib.ListN.{length}
 use lib.Dec.{eqb}
-use borrow.Author.Tests.{le-leb, lt-leb, ne-eqb, eqb-true, eqb-false}
+use borrow.Author.Tests.{le-leb, lt-leb, lt-ltb, ne-eqb, eqb-true, eqb-false}
 use Rattle.rules.specs.declared.Shape.{Shape}
 use Rattle.rules.specs.declared.Task.{Task}
-use Rattle.rules.specs.Record.{busy, atRest, fitsBusy, fits}
+use Rattle.rules.specs.Record.{busy, atRest, fitsBusy, fits, goodTask}
+
+pub good-task : (ts : List Task) (i : ℕ) → length ts ≤ 16 → i < length ts → goodTask ts i ≡ true
+unfolding goodTask
+good-task ts i few here = rw (le-leb (length ts) 16 few, lt-ltb i (length ts) here)
 
 -- phases 0 and 13
 abbrev pub Resting : Task → Type 0

@@ -1,4 +1,4 @@
--- Tests of numbers. `same-test`, `eqb-sym`: two tests of equality that hold together have one value.
+-- Tests. `refuted`: one that cannot hold. `same-test`, `eqb-sym`: two of equality that hold together have one value.
 -- A number from one to another, `within`. `inside`, `below`, `above`: the test by where the number lies;
 -- `between`: where it lies by the test, as the two facts of `Between`.
 -- Assumes nothing.
@@ -8,6 +8,10 @@ use mathlib.Core.Bool.{Bool, true, false, and-false, and-eq-true-iff}
 use lib.Dec.{leb, eqb}
 use borrow.Author.Tests.{le-leb, lt-leb, leb-true, eq-eqb, ne-eqb, eqb-true, eqb-false}
 use Rattle.rules.specs.Record.{within}
+
+pub refuted : (b : Bool) → (b ≡ true → ⊥) → b ≡ false
+refuted true never = absurd (never refl)
+refuted false never = refl
 
 pub same-test : (a b c d : ℕ) → (a ≡ b → c ≡ d) → (c ≡ d → a ≡ b) → eqb a b ≡ eqb c d
 same-test a b c d to back = go (eqb a b) refl

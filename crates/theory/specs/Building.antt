@@ -19,6 +19,7 @@ use Rattle.rules.specs.Room.{place, full, roomFor}
 use Rattle.rules.specs.Lay.{holds, insert, ascend}
 use Rattle.rules.specs.Put.{addAt, Outcome, putIn, wordsAfter}
 use Rattle.rules.specs.Build.{puts}
+use Rattle.table_words.specs.Tests.{refuted}
 use Rattle.theory.specs.Run.{code, Asc, none, next}
 use Rattle.theory.specs.Insert.{Within, Compared, before, same, after, compared, asc-all, asc-weaken, held-all}
 use Rattle.theory.specs.Insert.{holds-below, holds-head, same-eq, same-refl, same-not, insert-asc, insert-length}
@@ -346,12 +347,10 @@ module _ {sh : Shape} {us : List Entry} (u : Roomy sh us) where
           (holds-insert e f es ∙ or-right (sameEntry e f) (holds e es) h))
 
       turned : sameEntry e f ≡ false → sameEntry f e ≡ false
-      turned apart = go′ (sameEntry f e) refl
-        where
-          go′ : (b : Bool) → sameEntry f e ≡ b → sameEntry f e ≡ false
-          go′ true k =
-              absurd (true≢false (sym (same-refl f) ∙ ap (λ (x : Entry). sameEntry x f) (same-eq f e k) ∙ apart))
-          go′ false k = k
+      turned apart =
+          refuted
+          (sameEntry f e)
+          (λ k. true≢false (sym (same-refl f) ∙ ap (λ (x : Entry). sameEntry x f) (same-eq f e k) ∙ apart))
 
       go :
           (a b c : Bool) →

@@ -17,23 +17,20 @@ use Rattle.rules.specs.Table.{locked}
 use Rattle.rules.specs.Lay.{holds}
 use Rattle.rules.specs.Answer.{says}
 use Rattle.rules.specs.Find.{around, soundAround, lockedAround, findIn}
+use Rattle.table_words.specs.Tests.{refuted}
 use Rattle.theory.specs.Run.{Asc}
 use Rattle.theory.specs.Dealt.{isOccupied, and-both}
 use Rattle.theory.specs.RunLaws.{run-is-sound, run-occupied, run-entries}
 use Rattle.theory.specs.Insert.{asc-all, held-all, holds-below, holds-append}
 use Rattle.theory.specs.Gaps.{HomePlace}
 use Rattle.theory.specs.Seen.{Table, table, AtGap, InRun, Located, at-gap, in-run, locate, left-asc, right-asc}
-use Rattle.theory.specs.Places.{void-free, at-seam, at-after, gap-left, gap-right, gap-cluster, gap-entries}
-use Rattle.theory.specs.Places.{run-left, run-right, run-cluster, run-cluster-entries}
+use Rattle.theory.specs.Places.{void-free, at-seam, at-after, seam-free, gap-left, gap-right, gap-cluster}
+use Rattle.theory.specs.Places.{gap-entries, run-left, run-right, run-cluster, run-cluster-entries}
 use Rattle.theory.specs.SoundTable.{table-guards, nothing-sound}
 
 -- ---- who has an entry
 pub holds-right : {d c b : ℕ} {es : List Entry} (e : Entry) → Asc d c b es → c ≤ e .homePlace → holds e es ≡ false
-holds-right {es = es} e up le = go (holds e es) refl
-  where
-    go : (b : Bool) → holds e es ≡ b → holds e es ≡ false
-    go true t = let w = held-all e (asc-all up) t in absurd (omega (arith, w .inside))
-    go false t = t
+holds-right {es = es} e up le = refuted (holds e es) (λ t. omega (arith, held-all e (asc-all up) t .inside))
 
 -- ---- the surroundings of a home
 pub record Surroundings (sh : Shape) (ws : List Word) (es : List Entry) (e : Entry) : Type 0 where
@@ -67,10 +64,10 @@ gap-surroundings :
     (sh : Shape) {ws : List Word} {es : List Entry} (e : Entry) →
     remainders sh ≤ 4096 →
     e .remainder < remainders sh →
-    guardsVoid sh ws ≡ true → at ws 0 .occupied ≡ false → AtGap (remainders sh) ws es (e .homePlace) →
+    guardsVoid sh ws ≡ true → AtGap (remainders sh) ws es (e .homePlace) →
     Surroundings sh ws es e
 unfolding holds any
-gap-surroundings sh {ws} {es} e s low guards free t =
+gap-surroundings sh {ws} {es} e s low guards t =
     record {
       sound =
           subst₂
@@ -85,15 +82,15 @@ gap-surroundings sh {ws} {es} e s low guards free t =
           n
           []
           (sym (ap (guardsVoid sh) (t .words)) ∙ guards)
-          (gap-left (t .u) (t .g) (t .v) empty start)
-          (gap-right (t .u) (t .g) (t .v) empty start)
-          (gap-cluster (t .u) (t .g) (t .v) empty start)
+          (gap-left vs n empty)
+          (gap-right vs n empty)
+          (gap-cluster vs n empty)
           (ap isVoid (at-seam (t .u) (t .g) (t .v)) ∙ t .void)
           (ap isVoid (at-seam (t .u) (t .g) (t .v)) ∙ t .void)
           (nothing-sound sh));
       same =
           ap₂ (λ (xs : List Word) (q : ℕ). holds e (clusterEntries xs q)) (t .words) (t .here)
-          ∙ ap (holds e) (gap-entries (t .u) (t .g) (t .v) empty start)
+          ∙ ap (holds e) (gap-entries vs n empty)
           ∙ sym
           (ap (holds e) (t .shown)
           ∙ holds-append e (t .xs) (t .ys)
@@ -109,11 +106,8 @@ gap-surroundings sh {ws} {es} e s low guards free t =
     n : ℕ
     n = length (t .u)
 
-    empty : t .g .occupied ≡ false
-    empty = void-free (t .g) (t .void)
-
-    start : at vs 0 .occupied ≡ false
-    start = sym (ap (λ (xs : List Word). at xs 0 .occupied) (t .words)) ∙ free
+    empty : at vs n .occupied ≡ false
+    empty = seam-free (t .u) (t .g) (t .v) (t .void)
 
 run-surroundings :
     (sh : Shape) {ws : List Word} {es : List Entry} (e : Entry) →
@@ -197,7 +191,7 @@ unfolding places
 surroundings sh {ws} {es} e s size k low t = go (locate (e .homePlace) t (omega arith))
   where
     go : Located (remainders sh) ws es (e .homePlace) → Surroundings sh ws es e
-    go (at-gap x) = gap-surroundings sh e s low (table-guards sh size t) (origin t) x
+    go (at-gap x) = gap-surroundings sh e s low (table-guards sh size t) x
     go (in-run x) = run-surroundings sh e s low (table-guards sh size t) (origin t) x
 
 -- ---- locks: a part of an unlocked table is unlocked

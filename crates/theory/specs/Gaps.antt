@@ -168,6 +168,14 @@ pub gap-only : (s : Side) {os : List Bool} {h p q : ℕ} → Gap s os h p → Ga
 gap-only s {os} {h} {p} {q} x y =
     toward-both s p q (gap-first s q x (y .side) (y .free)) (gap-first s p y (x .side) (x .free))
 
+-- an unoccupied place is its own gap
+pub own-gap : (s : Side) (os : List Bool) (p : ℕ) → Free os p → gap s os p ≡ p
+unfolding leftGap
+own-gap left os zero f = refl
+own-gap left os (suc p) f = rw f
+own-gap right os p f =
+    gap-only right (rightGap-is os p) (record { side = le-refl p; free = f; run = λ q x y n. absurd (n (omega arith)) })
+
 -- so whatever is a gap is the one that is found
 pub gap-eq :
     (s : Side) {sh : Shape} {os : List Bool} {h p : ℕ} → Guarded sh os → Gap s os h p → gap s os h ≡ p

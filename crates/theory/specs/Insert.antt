@@ -15,6 +15,7 @@ use borrow.Author.Tests.{ltb-true, ltb-false, eqb-true, eq-eqb, lt-ltb, le-ltb}
 use Rattle.rules.specs.Lists.{any, count}
 use Rattle.rules.specs.Entry.{Entry, sameHome, sameEntry, precedes}
 use Rattle.rules.specs.Lay.{holds, insert, ascend, smaller}
+use Rattle.table_words.specs.Tests.{refuted}
 use Rattle.theory.specs.Run.{code, Asc, none, next}
 use Rattle.theory.specs.Every as every
 use Rattle.theory.specs.Every.{All, all-map}
@@ -69,11 +70,7 @@ code-eq e f x y h = λ i. record { homePlace = homeAt i; remainder = remainder i
     remainder = omega arith
 
 pub same-not : (e f : Entry) → code e ≢ code f → sameEntry e f ≡ false
-same-not e f h = go (sameEntry e f) refl
-  where
-    go : (b : Bool) → sameEntry e f ≡ b → sameEntry e f ≡ false
-    go true s = absurd (h (ap code (same-eq e f s)))
-    go false s = s
+same-not e f h = refuted (sameEntry e f) (λ s. h (ap code (same-eq e f s)))
 
 -- how two entries stand to each other, with what the tests then say
 pub data Compared (e f : Entry) : Type 0 where
@@ -129,11 +126,7 @@ held-all {P} e (every.both {x = f} {xs = es} p ps) h = go (sameEntry e f) refl h
 -- an entry whose code is below an ascending list's bound is not held
 pub holds-below :
     {d c b : ℕ} {es : List Entry} (e : Entry) → Asc d c b es → code e < b → holds e es ≡ false
-holds-below {es} e s h = go (holds e es) refl
-  where
-    go : (b : Bool) → holds e es ≡ b → holds e es ≡ false
-    go true t = let w = held-all e (asc-all s) t in absurd (omega (arith, w .above))
-    go false t = t
+holds-below {es} e s h = refuted (holds e es) (λ t. omega (arith, held-all e (asc-all s) t .above))
 
 pub holds-head : (e : Entry) (es : List Entry) → holds e (e ∷ es) ≡ true
 unfolding holds any

@@ -5,16 +5,16 @@
 -- home gets one word.
 -- Assumes nothing.
 use Prim.Native.Nat.{ℕ, suc, _+_, _-_, _≤_, _<_}
-use mathlib.Core.Path.{_≡_, refl, sym, ap, ap₂, _∙_, subst}
+use mathlib.Core.Path.{_≡_, refl, sym, ap, _∙_, subst}
 use mathlib.Core.Bool.{Bool, true, false, not, cond, _&&_, _||_, true≢false}
 use mathlib.Core.List.{List, [], _∷_, _++_}
 use native.Mathlib.Omega.{arith}
 use lib.ListN.{length, set, take, drop}
-use lib.Seq.{sets, split-at, length-take-le, length-slice}
+use lib.Seq.{sets, length-slice}
 use borrow.Author.Tests.{eq-eqb}
 use Rattle.rules.specs.declared.Shape.{Shape}
 use Rattle.rules.specs.Lists.{bitOf, count, all, any}
-use Rattle.rules.specs.Word.{Word, zeroWord, isVoid, aloneWord}
+use Rattle.rules.specs.Word.{Word, isVoid, aloneWord}
 use Rattle.rules.specs.Shape.{places, remainders}
 use Rattle.rules.specs.Entry.{Entry, sameHome, precedes}
 use Rattle.rules.specs.Table.{at, occupiedPlaces, leftGap, rightGap, between, cluster, soundRun, virginPlaces}
@@ -30,7 +30,7 @@ use Rattle.theory.specs.RunLaws.{sound-is-run}
 use Rattle.theory.specs.Gaps.{Side, HomePlace, gap}
 use Rattle.theory.specs.Gaps as gaps
 use Rattle.theory.specs.Side.{beside, begins, stands}
-use Rattle.theory.specs.Places.{void-free, occupied-at, gap-left, gap-entries}
+use Rattle.theory.specs.Places.{occupied-at, gap-left, gap-entries}
 use Rattle.theory.specs.Pairs.{unlocked-same}
 use Rattle.theory.specs.Locks.{locked-append}
 use Rattle.theory.specs.Adding.{or-parts}
@@ -368,31 +368,14 @@ module _ {sh : Shape} {ws : List Word} {e : Entry} (a : Addable sh ws e) where
     room-alone = rw (occupied-at ws (e .homePlace), empty)
 
     pub add-alone : addAt ws e (e .homePlace) ≡ set ws (e .homePlace) (aloneWord (e .remainder))
-    unfolding enlargedFrom places guardsVoid
+    unfolding enlargedFrom
     add-alone =
-        add-from ws e (e .homePlace) (e .homePlace) [] (omega (arith, own-gap, here)) no-entries
+        add-from
+        ws
+        e
+        (e .homePlace)
+        (e .homePlace)
+        []
+        (omega (arith, gap-left ws (e .homePlace) empty))
+        (gap-entries ws (e .homePlace) empty)
         ∙ ap (sets ws (e .homePlace)) (lay-alone e)
-      where
-        inside : e .homePlace < length ws
-        inside = omega (arith, a .homePlace .last, a .size)
-
-        words : ws ≡ take (e .homePlace) ws ++ (at ws (e .homePlace) ∷ drop (suc (e .homePlace)) ws)
-        words = split-at ws (e .homePlace) zeroWord inside
-
-        here : e .homePlace ≡ length (take (e .homePlace) ws)
-        here = sym (length-take-le (e .homePlace) ws (omega (arith, inside)))
-
-        origin : at (take (e .homePlace) ws ++ (at ws (e .homePlace) ∷ drop (suc (e .homePlace)) ws)) 0 .occupied ≡ false
-        origin =
-            ap (λ (vs : List Word). at vs 0 .occupied) (sym words)
-            ∙ void-free (at ws 0) (and-left (isVoid (at ws 0)) _ (look .guards))
-
-        own-gap : leftGap (occupiedPlaces ws) (e .homePlace) ≡ length (take (e .homePlace) ws)
-        own-gap =
-            ap₂ (λ (vs : List Word) (q : ℕ). leftGap (occupiedPlaces vs) q) words here
-            ∙ gap-left (take (e .homePlace) ws) (at ws (e .homePlace)) (drop (suc (e .homePlace)) ws) empty origin
-
-        no-entries : clusterEntries ws (e .homePlace) ≡ []
-        no-entries =
-            ap₂ clusterEntries words here
-            ∙ gap-entries (take (e .homePlace) ws) (at ws (e .homePlace)) (drop (suc (e .homePlace)) ws) empty origin

@@ -6,7 +6,6 @@ use mathlib.Core.Path.{_≡_, sym, ap, ap₂, _∙_}
 use mathlib.Core.Bool.{true, false}
 use mathlib.Core.List.{List, [], _∷_, _++_, append-assoc}
 use native.Mathlib.Omega.{arith}
-use native.Mathlib.Nat.{le-refl}
 use lib.ListN.{length, getD, take, drop, length-append, length-take, drop-of-length-le, List·getD-append}
 use lib.ListN.{List·getD-map, length-map}
 use lib.Seq.{slice, getD-append-seam, getD-append-add, take-append-add, take-append-seam, drop-append-seam}
@@ -18,7 +17,7 @@ use Rattle.rules.specs.Table.{entriesBetween, clusterEntries, guardsVoid}
 use Rattle.table_words.specs.All.{all-at}
 use Rattle.theory.specs.Dealt.{isOccupied, and-left}
 use Rattle.theory.specs.Locks.{void-unlock}
-use Rattle.theory.specs.Gaps.{Taken, Free, gap-only, leftGap-is, rightGap-is}
+use Rattle.theory.specs.Gaps.{Taken, own-gap, gap-only, leftGap-is, rightGap-is}
 use Rattle.theory.specs.Gaps as gaps
 
 pub void-free : (w : Word) → isVoid w ≡ true → w .occupied ≡ false
@@ -60,41 +59,26 @@ slice-part xs ys zs l r p q =
     ∙ drop-append-seam xs ys
 
 -- ---- an unoccupied place
-module _ (u : List Word) (g : Word) (v : List Word) (empty : g .occupied ≡ false)
-    (origin : at (u ++ (g ∷ v)) 0 .occupied ≡ false)
-  where
-    gap-free : Free (occupiedPlaces (u ++ (g ∷ v))) (length u)
-    gap-free = occupied-at (u ++ (g ∷ v)) (length u) ∙ ap isOccupied (at-seam u g v) ∙ empty
+module _ (ws : List Word) (p : ℕ) (empty : at ws p .occupied ≡ false) where
+  pub gap-left : leftGap (occupiedPlaces ws) p ≡ p
+  gap-left = own-gap gaps.left (occupiedPlaces ws) p (occupied-at ws p ∙ empty)
 
-    pub gap-left : leftGap (occupiedPlaces (u ++ (g ∷ v))) (length u) ≡ length u
-    gap-left =
-        gap-only
-        gaps.left
-        (leftGap-is (occupiedPlaces (u ++ (g ∷ v))) (length u) (occupied-at (u ++ (g ∷ v)) 0 ∙ origin))
-        (record { side = le-refl _; free = gap-free; run = λ q x y n. absurd (n (omega arith)) })
+  pub gap-right : rightGap (occupiedPlaces ws) p ≡ p
+  gap-right = own-gap gaps.right (occupiedPlaces ws) p (occupied-at ws p ∙ empty)
 
-    pub gap-right : rightGap (occupiedPlaces (u ++ (g ∷ v))) (length u) ≡ length u
-    gap-right =
-        gap-only
-        gaps.right
-        (rightGap-is (occupiedPlaces (u ++ (g ∷ v))) (length u))
-        (record { side = le-refl _; free = gap-free; run = λ q x y n. absurd (n (omega arith)) })
+  pub gap-cluster : cluster ws p ≡ []
+  unfolding cluster
+  gap-cluster =
+      ap₂ (between ws) gap-left gap-right
+      ∙ drop-of-length-le (take p ws) {i = suc p} (omega (arith, length-take p ws))
 
-    pub gap-cluster : cluster (u ++ (g ∷ v)) (length u) ≡ []
-    unfolding cluster
-    gap-cluster =
-        ap₂ (λ (l r : ℕ). between (u ++ (g ∷ v)) l r) gap-left gap-right
-        ∙ drop-of-length-le
-        (take (length u) (u ++ (g ∷ v)))
-        {i = suc (length u)}
-        (omega (arith, length-take (length u) (u ++ (g ∷ v))))
+  pub gap-entries : clusterEntries ws p ≡ []
+  unfolding clusterEntries entriesBetween cluster deal virginPlaces
+  gap-entries =
+      ap (λ (vs : List Word). deal (virginPlaces (suc (leftGap (occupiedPlaces ws) p)) vs) vs) gap-cluster
 
-    pub gap-entries : clusterEntries (u ++ (g ∷ v)) (length u) ≡ []
-    unfolding clusterEntries entriesBetween cluster deal virginPlaces
-    gap-entries =
-        ap
-        (λ (ws : List Word). deal (virginPlaces (suc (leftGap (occupiedPlaces (u ++ (g ∷ v))) (length u))) ws) ws)
-        gap-cluster
+pub seam-free : (u : List Word) (g : Word) (v : List Word) → isVoid g ≡ true → at (u ++ (g ∷ v)) (length u) .occupied ≡ false
+seam-free u g v void = ap isOccupied (at-seam u g v) ∙ void-free g void
 
 -- ---- a place of a run
 module _ (u : List Word) (g : Word) (run : List Word) (h : Word) (v : List Word)

@@ -27,7 +27,7 @@ use Rattle.theory.specs.Gaps.{Free, Taken, Guarded, HomePlace, Chosen, r
 use Rattle.theory.specs.Gaps as gaps
 use Rattle.theory.specs.Seen.{Table, AtGap, InRun, Located, at-gap, in-run, locate}
 use Rattle.theory.specs.Places.{void-free, occupied-at, at-seam, gap-left, gap-entries, run-taken, run-left}
-use Rattle.theory.specs.Places.{run-right, run-cluster-entries}
+use Rattle.theory.specs.Places.{run-right, run-cluster-entries, seam-free}
 use Rattle.theory.specs.Cut.{void-guarded}
 use Rattle.theory.specs.Finding.{origin, Surroundings, surroundings, around-free}
 use Rattle.theory.specs.Adding.{Added, add-home, add-left, add-right}
@@ -62,10 +62,9 @@ added-home :
     {d : ℕ} {ws : List Word} {es : List Entry} (e : Entry) (t : AtGap d ws es (e .homePlace)) →
     d ≤ 4096 →
     e .remainder < d →
-    at ws 0 .occupied ≡ false →
     0 < length (t .u) → 0 < length (t .v) → Added d ws es e (e .homePlace) (addAt ws e (e .homePlace))
 unfolding enlargedFrom insert
-added-home {d} {ws} {es} e t s low start some more =
+added-home {d} {ws} {es} e t s low some more =
     subst₂
     (Added d ws es e)
     (sym (t .here))
@@ -77,7 +76,7 @@ added-home {d} {ws} {es} e t s low start some more =
     (length (t .u))
     []
     first
-    (ap₂ clusterEntries (t .words) (t .here) ∙ gap-entries (t .u) (t .g) (t .v) empty origin-here)
+    (ap₂ clusterEntries (t .words) (t .here) ∙ gap-entries _ _ empty)
     ∙ ap (λ (vs : List Word). sets vs (length (t .u)) (layRun (length (t .u)) (insert e []))) (t .words)
     ∙ spliced
     (t .u)
@@ -89,16 +88,13 @@ added-home {d} {ws} {es} e t s low start some more =
     (lay-run-length (length (t .u)) (e ∷ []))))
     (add-home e t s low some more)
   where
-    empty : t .g .occupied ≡ false
-    empty = void-free (t .g) (t .void)
-
-    origin-here : at (t .u ++ (t .g ∷ t .v)) 0 .occupied ≡ false
-    origin-here = sym (ap (λ (vs : List Word). at vs 0 .occupied) (t .words)) ∙ start
+    empty : at (t .u ++ (t .g ∷ t .v)) (length (t .u)) .occupied ≡ false
+    empty = seam-free (t .u) (t .g) (t .v) (t .void)
 
     gap : leftGap (occupiedPlaces ws) (e .homePlace) ≡ length (t .u)
     gap =
         ap₂ (λ (vs : List Word) (q : ℕ). leftGap (occupiedPlaces vs) q) (t .words) (t .here)
-        ∙ gap-left (t .u) (t .g) (t .v) empty origin-here
+        ∙ gap-left _ _ empty
 
     first : enlargedFrom ws (e .homePlace) (e .homePlace) ≡ length (t .u)
     first = omega (arith, gap, t .here)
@@ -282,7 +278,6 @@ module _ (sh : Shape) {ws : List Word} {es : List Entry} (e : Entry)
             x
             s
             low
-            (origin t)
             (omega (arith, x .here, k .first))
             (words-after sh (x .u) (x .g) (x .v) ws (x .words) size far))
         go (gaps.first y n) free at-home = absurd (true≢false (sym y ∙ free))

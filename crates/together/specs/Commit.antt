@@ -7,8 +7,7 @@ use mathlib.Core.Logic.{_⊎_, _≢_, inl, inr}
 use mathlib.Core.Bool.{Bool, true, false, cond, _||_, true≢false}
 use mathlib.Core.List.{List, [], _∷_}
 use native.Mathlib.Omega.{arith}
-use native.Mathlib.Nat.{le-refl}
-use lib.ListN.{length, take, set, length-set, length-take, drop-of-length-le}
+use lib.ListN.{length, set, length-set}
 use lib.Dec.{eqb}
 use borrow.Author.Tests.{eqb-true, eqb-false}
 use Rattle.rules.specs.declared.Shape.{Shape}
@@ -17,8 +16,7 @@ use Rattle.rules.specs.Lists.{any}
 use Rattle.rules.specs.Word.{Word, zeroWord, lockWord, filledWith, isVoid, isLock, isZero, aloneWord}
 use Rattle.rules.specs.Shape.{homes, remainders, keys, places, rightGuard}
 use Rattle.rules.specs.Entry.{Entry, split, sameEntry}
-use Rattle.rules.specs.Table.{at, occupiedPlaces, leftGap, rightGap, between, virginPlaces, deal, entriesBetween}
-use Rattle.rules.specs.Table.{clusterEntries}
+use Rattle.rules.specs.Table.{at, occupiedPlaces, leftGap, rightGap, entriesBetween, clusterEntries}
 use Rattle.rules.specs.Room.{place, full, roomFor}
 use Rattle.rules.specs.Lay.{holds, insert, smaller, markOf}
 use Rattle.rules.specs.Put.{addAt, enlargedFrom, Outcome, keeps, putIn, wordsAfter}
@@ -26,19 +24,20 @@ use Rattle.rules.specs.Record.{homePlaceOf, toPhase, withLeft, withAnswer, task
 use Rattle.rules.specs.Phase as phase
 use Rattle.rules.specs.Phase.{to, unsound, movesOn}
 use Rattle.table_words.specs.Split.{split-in-shape}
+use Rattle.table_words.specs.Tests.{refuted}
 use Rattle.theory.specs.Run.{unlock}
 use Rattle.theory.specs.Dealt.{or-left, or-right}
 use Rattle.theory.specs.Locks.{at-unlock}
 use Rattle.theory.specs.Insert.{same-eq, same-refl, holds-insert}
 use Rattle.theory.specs.Gaps as gaps
-use Rattle.theory.specs.Gaps.{Side, HomePlace, other, leftGap-is, rightGap-is, gap-only, room-left, chosen-only}
+use Rattle.theory.specs.Gaps.{Side, HomePlace, other, room-left, chosen-only}
 use Rattle.theory.specs.Cut.{end, from}
-use Rattle.theory.specs.Places.{occupied-at}
+use Rattle.theory.specs.Places.{occupied-at, gap-entries}
 use Rattle.theory.specs.Motion.{fillAt, finish}
 use Rattle.theory.specs.Region.{fillAt-occupied, fillAt-locks}
 use Rattle.theory.specs.Pairs.{unlocked-same}
 use Rattle.theory.specs.Finding.{Surroundings, surroundings, around-free}
-use Rattle.theory.specs.Putting.{Puts, found, inserted, overflow, put-table, table-guarded}
+use Rattle.theory.specs.Putting.{Puts, found, inserted, overflow, put-table}
 use Rattle.theory.specs.Moving.{Addable, add-end, begins-from, room-alone, add-alone}
 use Rattle.theory.specs.Building.{State, after-put, added-state, place≢full}
 use Rattle.together.specs.Frames.{Within, at-set, at-other, finish-before, finish-after, locks-at, occupied-same}
@@ -96,12 +95,10 @@ plain-unlocked {laid = laid} q s =
 
 -- another key's entry is as much held as before
 pub held-other : (e f : Entry) (es : List Entry) → (e .homePlace ≢ f .homePlace) → holds f (insert e es) ≡ holds f es
-held-other e f es apart =
-    holds-insert f e es ∙ ap (λ (b : Bool). b || holds f es) (go (sameEntry f e) refl)
+held-other e f es apart = holds-insert f e es ∙ ap (λ (b : Bool). b || holds f es) other
   where
-    go : (b : Bool) → sameEntry f e ≡ b → sameEntry f e ≡ false
-    go true h = absurd (apart (ap (λ (x : Entry). x .homePlace) (sym (same-eq f e h))))
-    go false h = h
+    other : sameEntry f e ≡ false
+    other = refuted (sameEntry f e) (λ h. apart (ap (λ (x : Entry). x .homePlace) (sym (same-eq f e h))))
 
 pub held-now : (e : Entry) (es : List Entry) → holds e (insert e es) ≡ true
 held-now e es = holds-insert e e es ∙ or-left _ _ (same-refl e)
@@ -629,36 +626,10 @@ occupied-set (v ∷ ws) (suc p) w = ap (λ (os : List Bool). v .occupied ∷ os)
 
 -- an unoccupied home has no cluster, and so no keys
 no-keys-there :
-    (sh : Shape) (laid : List Word) (e : Entry) {shown : List Entry} →
-    State sh laid shown → at laid (e .homePlace) .occupied ≡ false → holds e (clusterEntries laid (e .homePlace)) ≡ false
-unfolding holds any clusterEntries entriesBetween virginPlaces deal
-no-keys-there sh laid e s free =
-    ap₂ (λ (l r : ℕ). holds e (entriesBetween laid l r)) own-left own-right
-    ∙ ap (λ (vs : List Word). holds e (deal (virginPlaces (suc (e .homePlace)) vs) vs)) nothing
-  where
-    free-place : gaps.Free (occupiedPlaces laid) (e .homePlace)
-    free-place = occupied-at laid (e .homePlace) ∙ free
-
-    own-left : leftGap (occupiedPlaces laid) (e .homePlace) ≡ e .homePlace
-    own-left =
-        gap-only
-        gaps.left
-        (leftGap-is (occupiedPlaces laid) (e .homePlace) (table-guarded sh (s .size) (s .table) .left))
-        (record { side = le-refl _; free = free-place; run = λ q a b n. absurd (n (omega arith)) })
-
-    own-right : rightGap (occupiedPlaces laid) (e .homePlace) ≡ e .homePlace
-    own-right =
-        gap-only
-        gaps.right
-        (rightGap-is (occupiedPlaces laid) (e .homePlace))
-        (record { side = le-refl _; free = free-place; run = λ q a b n. absurd (n (omega arith)) })
-
-    nothing : between laid (e .homePlace) (e .homePlace) ≡ []
-    nothing =
-        drop-of-length-le
-        (take (e .homePlace) laid)
-        {i = suc (e .homePlace)}
-        (omega (arith, length-take (e .homePlace) laid))
+    (laid : List Word) (e : Entry) →
+    at laid (e .homePlace) .occupied ≡ false → holds e (clusterEntries laid (e .homePlace)) ≡ false
+unfolding holds any
+no-keys-there laid e free = ap (holds e) (gap-entries laid (e .homePlace) free)
 
 -- ---- phase 1, on an empty home
 module _ {sh : Shape} {ws : List Word} {ts : List Task} {laid : List Word} {shown : List Entry}
@@ -686,7 +657,7 @@ module _ {sh : Shape} {ws : List Word} {ts : List Task} {laid : List Word} {show
 
     -- nobody's key has an unoccupied home
     new₁ : holds e₁ shown ≡ false
-    new₁ = sym (look₁ .same) ∙ no-keys-there sh laid e₁ (inv .plain) laid-empty
+    new₁ = sym (look₁ .same) ∙ no-keys-there laid e₁ laid-empty
 
     addable₁ : Addable sh laid e₁
     addable₁ =

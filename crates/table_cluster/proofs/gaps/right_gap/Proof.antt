@@ -8,8 +8,10 @@ use denote.Ref.{now}
 use lib.ListN.{length}
 use Rattle.rules.specs.Bytes.{wordsOf}
 use Rattle.rules.specs.Table.{occupiedPlaces, rightGap}
+use Rattle.theory.specs.Gaps as gaps
+use Rattle.theory.specs.Gaps.{own-gap}
 use Rattle.theory.specs.Places.{occupied-length}
-use Rattle.table_cluster.specs.Scan.{words-count, right-step, right-stop, right-end}
+use Rattle.table_cluster.specs.Scan.{words-count, right-step, right-end}
 use Rattle.table_cluster.proofs.gaps.right_gap.Statement.{statement}
 use Rattle.table_cluster.proofs.gaps.right_gap.Tie as tie
 
@@ -50,7 +52,7 @@ returns c =
     let head = c .before .before .before in
     let bs = now (head .before .before .args .table) in
     let seen = sym (c .before .taken .ensures) ∙ c .if1 .left in
-    sym (right-stop (occupiedPlaces (wordsOf bs)) (head .loop .i) (omega (arith, size bs)) seen) ∙ head .loop .inv
+    sym (own-gap gaps.right (occupiedPlaces (wordsOf bs)) (head .loop .i) seen) ∙ head .loop .inv
 
 returns-2 : tie.Need-returns-2 Inv-loop μ-loop
 returns-2 c =
