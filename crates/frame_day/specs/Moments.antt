@@ -21,7 +21,7 @@ use Rattle.rules.specs.Give.{given, giveTo, give}
 use Rattle.rules.specs.Step.{lentAfter, step}
 use Rattle.table_words.specs.Range.{good-table, remainders-high, range-in}
 use Rattle.table_words.specs.All.{all-at}
-use Rattle.table_words.specs.Busy.{good-task, rest-not-busy, fits-works}
+use Rattle.theory.specs.Record.{good-task, rest-not-busy, fits-works}
 use Rattle.theory.specs.Dealt.{and-left, and-right}
 use Rattle.demands.specs.Terms.{PlainTable, InKeys}
 use Rattle.frame_rules.specs.declared.First.{First}

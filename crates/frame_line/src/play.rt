@@ -3,10 +3,10 @@ use frame_rounds::round::Desk;
 use frame_rounds::round::all_answered;
 use frame_rounds::round::rounds;
 use rules::Shape;
-use rules::Task;
 use table_words::bytes::clear;
 use table_words::shape::homes;
 use table_words::shape::shape_of;
+use task_fits::record::no_task;
 ghost use mathlib.Core.Path.{_≡_};
 ghost use mathlib.Core.Bool.{true};
 ghost use Prim.Native.Nat.{_≤_};
@@ -31,17 +31,7 @@ fn limit(sh: Shape, n: usize) -> u64
 fn idle_desk() -> Desk
     ensures { λ d. ⌜ d ≡ idleDesk ⌝ }
 {
-    let idle = Task {
-        key: 0,
-        phase: 0,
-        left: 0,
-        right: 0,
-        hand: 0,
-        goal: 0,
-        mark: 0,
-        answer: 0,
-    };
-    let tasks = [idle; 16];
+    let tasks = [no_task(); 16];
     let serving = [0usize; 16];
     Desk {
         tasks: tasks,

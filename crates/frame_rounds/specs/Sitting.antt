@@ -19,7 +19,7 @@ use Rattle.rules.specs.Answer.{Leaves, leaves, turnSays}
 use Rattle.rules.specs.Give.{storedAt, give}
 use Rattle.rules.specs.Step.{step}
 use Rattle.task_step.specs.Given.{giveOne, give-one}
-use Rattle.table_words.specs.Busy.{good-task}
+use Rattle.theory.specs.Record.{good-task}
 use Rattle.task_step.specs.Stepping.{Left, stepSays, stepOne, lentOf, step-one}
 use Rattle.frame_rules.specs.Lines.{keysOf}
 use Rattle.frame_rules.specs.Rounds.{Floor, afterTake, afterStep, turn}

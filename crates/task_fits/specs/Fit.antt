@@ -1,10 +1,10 @@
 -- When a record fits (01, Tasks and their steps). `Fits`: what holds of a busy one; `fitting`: its test tells it.
--- `resting-fits` to `beyond-fits`: how the phase alone decides. `work-none`: where hand, goal and mark are not asked about.
+-- `fits-resting` to `fits-beyond`: what is asked in each phase.
 -- Assumes nothing.
-use Prim.Native.Nat.{suc, _≤_, _<_}
+use Prim.Native.Nat.{ℕ, suc, _≤_, _<_}
 use mathlib.Core.Path.{_≡_, refl, sym}
-use mathlib.Core.Bool.{Bool, true, false, not, _&&_, _||_, and-eq-true-iff, true≢false}
-use mathlib.Core.Logic.{inl}
+use mathlib.Core.Bool.{Bool, true, false, not, _&&_, _||_, and-true, and-eq-true-iff, true≢false}
+use mathlib.Core.Logic.{_≢_, _⊎_, inl, inr}
 use native.Mathlib.Omega.{arith}
 use lib.Dec.{ltb, leb, eqb}
 use borrow.Author.Tests.{le-leb, lt-leb, eq-eqb, ne-eqb, ltb-true, leb-true, eqb-false, not-true}
@@ -13,43 +13,78 @@ use Rattle.rules.specs.declared.Task.{Task}
 use Rattle.rules.specs.Shape.{homes, keys, rightGuard}
 use Rattle.rules.specs.Record.{homePlaceOf, within, implies, busy, atRest, fitsHand, fitsBusy, fits}
 use Rattle.table_words.specs.Tests.{Between, inside, between}
-use Rattle.table_words.specs.Busy.{Resting, resting, not-resting, is-busy, done-or-beyond, fits-works}
+use Rattle.theory.specs.Record.{Resting, resting, not-resting, is-busy, done-or-beyond, fits-works}
 
--- what is asked of hand, goal and mark: the last four of the rules' tests of a busy record
-unfoldable pub fitsWork : Shape → Task → Bool
-fitsWork sh t =
-    implies (within 8 10 (t .phase)) (fitsHand sh t)
-    && implies (eqb (t .phase) 8) (eqb (t .hand) (t .left) || eqb (t .hand) (t .right))
-    && implies (eqb (t .phase) 9) (not (eqb (t .hand) (t .goal)))
-    && implies (eqb (t .phase) 10) (eqb (t .hand) (t .goal))
+-- what a busy record is asked, each with all before it: key and left, from phase 2; right, from phase 3; hand, goal and
+-- mark, in 8 to 10
+abbrev pub fitsLeft : Shape → Task → Bool
+fitsLeft sh t = ltb (t .key) (keys sh) && ltb (t .left) (homePlaceOf sh t)
 
--- they ask nothing in other phases
-pub work-none :
-    (sh : Shape) (t : Task) →
-    (t .phase ≡ 8 → ⊥) → (t .phase ≡ 9 → ⊥) → (t .phase ≡ 10 → ⊥) → fitsWork sh t ≡ true
-unfolding fitsWork
-work-none sh t not-8 not-9 not-10 =
-    rw (ne-eqb (t .phase) 8 not-8, ne-eqb (t .phase) 9 not-9, ne-eqb (t .phase) 10 not-10) (go (leb 8 (t .phase)) refl)
+abbrev pub fitsRight : Shape → Task → Bool
+fitsRight sh t = fitsLeft sh t && within (suc (homePlaceOf sh t)) (rightGuard sh) (t .right)
+
+abbrev pub fitsWork : Shape → Task → Bool
+fitsWork sh t = fitsRight sh t && fitsHand sh t
+
+-- in 8 hand is left or right
+abbrev pub atEnd : Task → Bool
+atEnd t = eqb (t .hand) (t .left) || eqb (t .hand) (t .right)
+
+-- what is none of 8 to 10 is not from 8 to 10
+working-not : (n : ℕ) → n ≢ 8 → n ≢ 9 → n ≢ 10 → within 8 10 n ≡ false
+working-not n not-8 not-9 not-10 = go (leb 8 n) refl
   where
-    go : (b : Bool) → leb 8 (t .phase) ≡ b →
-        (implies (b && leb (t .phase) 10) (fitsHand sh t) && true && true && true) ≡ true
+    go : (b : Bool) → leb 8 n ≡ b → (b && leb n 10) ≡ false
     go false e = refl
-    go true e =
-        let low = leb-true 8 (t .phase) e in
-        rw (lt-leb (t .phase) 10 (omega arith))
+    go true e = let low = leb-true 8 n e in lt-leb n 10 (omega arith)
 
+-- ---- what is asked, by the phase
 module _ (sh : Shape) (t : Task) where
-  pub resting-fits : Resting t → fits sh t ≡ true
+  pub fits-resting : Resting t → fits sh t ≡ true
   unfolding fits
-  resting-fits e = rw (resting t e)
+  fits-resting e = rw (resting t e)
 
-  pub busy-fits : (Resting t → ⊥) → t .phase < 13 → fits sh t ≡ fitsBusy sh t
-  unfolding fits
-  busy-fits awake h = rw (not-resting t awake, is-busy t (λ e. awake (inl e)) h)
+  pub fits-1 : t .phase ≡ 1 → fits sh t ≡ ltb (t .key) (keys sh)
+  unfolding fits atRest busy fitsBusy
+  fits-1 e = rw e (simp and-true)
 
-  pub beyond-fits : (Resting t → ⊥) → 13 ≤ t .phase → fits sh t ≡ false
+  pub fits-2 : t .phase ≡ 2 → fits sh t ≡ fitsLeft sh t
+  unfolding fits atRest busy fitsBusy
+  fits-2 e = rw e (simp and-true)
+
+  -- phases 3 to 7, 11 and 12: what is busy and none of the others
+  pub fits-between :
+      (Resting t → ⊥) → t .phase ≢ 1 → t .phase ≢ 2 → t .phase ≢ 8 → t .phase ≢ 9 → t .phase ≢ 10 → t .phase < 13 →
+      fits sh t ≡ fitsRight sh t
+  unfolding fits fitsBusy
+  fits-between awake not-1 not-2 not-8 not-9 not-10 high =
+      let not-0 : t .phase ≢ 0 = λ e. awake (inl e) in
+      rw (
+        not-resting t awake,
+        is-busy t not-0 high,
+        le-leb 2 (t .phase) (omega arith),
+        le-leb 3 (t .phase) (omega arith),
+        working-not (t .phase) not-8 not-9 not-10,
+        ne-eqb (t .phase) 8 not-8,
+        ne-eqb (t .phase) 9 not-9,
+        ne-eqb (t .phase) 10 not-10,
+      ) (simp and-true)
+
+  pub fits-8 : t .phase ≡ 8 → fits sh t ≡ (fitsWork sh t && atEnd t)
+  unfolding fits atRest busy fitsBusy
+  fits-8 e = rw e (simp and-true)
+
+  pub fits-9 : t .phase ≡ 9 → fits sh t ≡ (fitsWork sh t && not (eqb (t .hand) (t .goal)))
+  unfolding fits atRest busy fitsBusy
+  fits-9 e = rw e (simp and-true)
+
+  pub fits-10 : t .phase ≡ 10 → fits sh t ≡ (fitsWork sh t && eqb (t .hand) (t .goal))
+  unfolding fits atRest busy fitsBusy
+  fits-10 e = rw e (simp and-true)
+
+  pub fits-beyond : (Resting t → ⊥) → 13 ≤ t .phase → fits sh t ≡ false
   unfolding fits
-  beyond-fits awake h = rw (not-resting t awake, done-or-beyond t h)
+  fits-beyond awake h = rw (not-resting t awake, done-or-beyond t h)
 
 -- hand and goal from 1 to 2^m; goal at least 2 for mark 1
 pub record FitsHand (sh : Shape) (t : Task) : Type 0 where
@@ -123,7 +158,3 @@ fitting-busy sh t e =
 -- a record that fits and is not at rest is busy, and all of this holds of it
 pub fitting : (sh : Shape) (t : Task) → fits sh t ≡ true → atRest t ≡ false → Fits sh t
 fitting sh t e rest = fitting-busy sh t (fits-works t sh e rest .1)
-
-pub fitting-phase : (sh : Shape) (t : Task) → fits sh t ≡ true → atRest t ≡ false → (1 ≤ t .phase) × (t .phase ≤ 12)
-unfolding busy
-fitting-phase sh t e rest = let b = between 1 12 (t .phase) (fits-works t sh e rest .0) in (b .least, b .most)

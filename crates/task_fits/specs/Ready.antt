@@ -29,12 +29,6 @@ pub record Ready (n : ℕ) (sh : Shape) (bytes : List ℕ) (t : Task) : Type 0 w
   pub phase : t .phase ≡ n
   pub fits : Fits sh t
 
--- the same, with a phase from a to b
-pub record Among (a b : ℕ) (sh : Shape) (bytes : List ℕ) (t : Task) : Type 0 where
-  pub ready : Ready (t .phase) sh bytes t
-  pub low : a ≤ t .phase
-  pub high : t .phase ≤ b
-
 module _ {n : ℕ} {sh : Shape} {bytes : List ℕ} {t : Task} (ready : Ready n sh bytes t) where
   -- the home lies between the guards
   pub home-low : 1 ≤ homePlaceOf sh t

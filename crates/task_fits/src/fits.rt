@@ -1,22 +1,50 @@
-// Whether a record fits (01, Tasks and their steps, last paragraph), one function for each definition of the rules.
+// Whether a record fits (01, Tasks and their steps, last paragraph): one match on the phase says what is asked, and
+// nothing else here looks at the phase.
 use rules::Shape;
 use rules::Task;
 use table_words::key::good_key;
 use table_words::key::home_place;
+use table_words::place::right_of;
 use table_words::shape::homes;
 use table_words::shape::right_guard;
 use table_words::shape::within;
 ghost use mathlib.Core.Path.{_≡_};
 ghost use mathlib.Core.Bool.{_&&_};
-ghost use Prim.Native.Nat.{suc, _<_};
 ghost use lib.Dec.{ltb, leb, eqb};
-ghost use Rattle.rules.specs.Shape.{keys, rightGuard};
 ghost use Rattle.rules.specs.Record as spec;
-ghost use Rattle.rules.specs.Record.{homePlaceOf, implies, fitsHand, fitsBusy};
+ghost use Rattle.rules.specs.Record.{implies, fitsHand};
 ghost use Rattle.table_words.specs.Range.{InRange};
-ghost use Rattle.task_fits.specs.Fit.{fitsWork};
+ghost use Rattle.task_fits.specs.Fit.{fitsLeft, fitsRight, fitsWork, atEnd};
 
-fn fits_mark(t: Task) -> bool
+// The key is in range, and left below the home.
+fn left_fits(sh: Shape, t: Task) -> bool
+    requires { ⌜ InRange sh ⌝ }
+    ensures { λ b. ⌜ b ≡ fitsLeft sh t ⌝ }
+{
+    if good_key(sh, t.key) {
+        t.left < home_place(sh, t.key).0
+    } else {
+        false
+    }
+}
+
+// Besides, right is above the home, up to the right guard.
+fn right_fits(sh: Shape, t: Task) -> bool
+    requires { ⌜ InRange sh ⌝ }
+    ensures { λ b. ⌜ b ≡ fitsRight sh t ⌝ }
+{
+    if left_fits(sh, t) {
+        within(
+            right_of(home_place(sh, t.key)).0,
+            right_guard(sh).0,
+            t.right,
+        )
+    } else {
+        false
+    }
+}
+
+fn mark_fits(t: Task) -> bool
     ensures { λ b. ⌜ b ≡ (leb (t .mark) 2 && implies (eqb (t .mark) 1) (leb 2 (t .goal) && ltb (t .left) (t .goal))) ⌝ }
 {
     if t.mark == 1 {
@@ -26,7 +54,7 @@ fn fits_mark(t: Task) -> bool
     }
 }
 
-fn fits_hand(sh: Shape, t: Task) -> bool
+fn hand_fits(sh: Shape, t: Task) -> bool
     requires { ⌜ InRange sh ⌝ }
     ensures { λ b. ⌜ b ≡ fitsHand sh t ⌝ }
 {
@@ -43,77 +71,30 @@ fn fits_hand(sh: Shape, t: Task) -> bool
     if !within(t.left, t.right, t.goal) {
         return false;
     }
-    fits_mark(t)
+    mark_fits(t)
 }
 
-// What is asked of hand, goal and mark, by phase.
-fn fits_work(sh: Shape, t: Task) -> bool
+// Key, left and right fit, and so do hand, goal and mark.
+fn work_fits(sh: Shape, t: Task) -> bool
     requires { ⌜ InRange sh ⌝ }
     ensures { λ b. ⌜ b ≡ fitsWork sh t ⌝ }
 {
-    let phase = t.phase;
-    match phase {
-        8 => if fits_hand(sh, t) {
-            if t.hand == t.left {
-                true
-            } else {
-                t.hand == t.right
-            }
-        } else {
-            false
-        },
-        9 => if fits_hand(sh, t) {
-            t.hand != t.goal
-        } else {
-            false
-        },
-        10 => if fits_hand(sh, t) {
-            t.hand == t.goal
-        } else {
-            false
-        },
-        _ => true,
-    }
-}
-
-// From phase 2 on, left is below the home.
-fn fits_left(sh: Shape, t: Task) -> bool
-    requires { ⌜ InRange sh ⌝ ∗ ⌜ t .key < keys sh ⌝ }
-    ensures { λ b. ⌜ b ≡ implies (leb 2 (t .phase)) (ltb (t .left) (homePlaceOf sh t)) ⌝ }
-{
-    if 2 <= t.phase {
-        t.left < home_place(sh, t.key).0
+    if right_fits(sh, t) {
+        hand_fits(sh, t)
     } else {
-        true
+        false
     }
 }
 
-// From phase 3 on, right is above the home, up to the right guard.
-fn fits_right(sh: Shape, t: Task) -> bool
-    requires { ⌜ InRange sh ⌝ ∗ ⌜ t .key < keys sh ⌝ }
-    ensures { λ b. ⌜ b ≡ implies (leb 3 (t .phase)) (spec.within (suc (homePlaceOf sh t)) (rightGuard sh) (t .right)) ⌝ }
+// The hand is at one of the ends.
+fn at_end(t: Task) -> bool
+    ensures { λ b. ⌜ b ≡ atEnd t ⌝ }
 {
-    if 3 <= t.phase {
-        within(home_place(sh, t.key).0 + 1, right_guard(sh).0, t.right)
+    if t.hand == t.left {
+        true
     } else {
-        true
+        t.hand == t.right
     }
-}
-
-fn fits_busy(sh: Shape, t: Task) -> bool
-    requires { ⌜ InRange sh ⌝ }
-    ensures { λ b. ⌜ b ≡ fitsBusy sh t ⌝ }
-{
-    if !good_key(sh, t.key) {
-        return false;
-    }
-    if !fits_left(sh, t) {
-        return false;
-    }
-    if !fits_right(sh, t) {
-        return false;
-    }
-    fits_work(sh, t)
 }
 
 pub fn fits(sh: Shape, t: Task) -> bool
@@ -123,7 +104,20 @@ pub fn fits(sh: Shape, t: Task) -> bool
     let phase = t.phase;
     match phase {
         0 | 13 => true,
-        1..=12 => fits_busy(sh, t),
+        1 => good_key(sh, t.key),
+        2 => left_fits(sh, t),
+        3..=7 | 11 | 12 => right_fits(sh, t),
+        8 => if work_fits(sh, t) { at_end(t) } else { false },
+        9 => if work_fits(sh, t) {
+            t.hand != t.goal
+        } else {
+            false
+        },
+        10 => if work_fits(sh, t) {
+            t.hand == t.goal
+        } else {
+            false
+        },
         14..=255 => false,
     }
 }

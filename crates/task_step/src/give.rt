@@ -5,6 +5,7 @@ use rules::Turn;
 use table_words::key::good_key;
 use table_words::shape::good_shape;
 use table_words::shape::shape_of;
+use task_fits::record::no_task;
 ghost use mathlib.Core.Path.{_≡_};
 ghost use Rattle.rules.specs.Shape.{shapeOf};
 ghost use Rattle.rules.specs.Give as spec;
@@ -15,16 +16,10 @@ ghost use Rattle.rules.specs.Answer.{turnSays};
 fn given(key: u32) -> Task
     ensures { λ t. ⌜ t ≡ spec.given key ⌝ }
 {
-    Task {
-        key: key,
-        phase: 1,
-        left: 0,
-        right: 0,
-        hand: 0,
-        goal: 0,
-        mark: 0,
-        answer: 0,
-    }
+    let mut t = no_task();
+    t.key = key;
+    t.phase = 1;
+    t
 }
 
 fn give_to(t: Task, key: u32) -> Turn

@@ -7,57 +7,66 @@ use table_cluster::guards::guards_void;
 use table_words::shape::good_table;
 use table_words::shape::shape_of;
 use task_fits::fits::fits;
-use task_seek::seek::Seeking;
-use task_settle::settle::Settling;
+use task_fits::record::at_rest;
+use task_phases::Busy;
 ghost use mathlib.Core.Path.{_≡_};
-ghost use mathlib.Core.Bool.{true, false};
 ghost use Prim.Native.Nat.{_*_};
 ghost use lib.ListN.{length};
 ghost use Rattle.rules.specs.Bytes.{wordsOf};
 ghost use Rattle.rules.specs.Shape.{shapeOf, places};
-ghost use Rattle.rules.specs.Record.{atRest, fits as fit};
-ghost use Rattle.rules.specs.Step.{ofPhase, stepOf};
+ghost use Rattle.rules.specs.Step.{stepOf};
 ghost use Rattle.table_words.specs.Range.{InRange};
-ghost use Rattle.task_fits.specs.Ready.{Among};
-ghost use Rattle.task_fits.specs.Taken.{Follows};
-ghost use Rattle.task_step.specs.Stepping.{stepSays, leftAfter, stepOne};
+ghost use Rattle.task_fits.specs.Taken.{taken};
+ghost use Rattle.task_step.specs.Stepping.{guardsGood, Acts, actsBy, stepSays, leftAfter, stepOne};
 
-// On a busy record, by its phase: it seeks, or it settles its key.
+// What a step does depends on the phase, and this is the one place that says how. A phase above 13 does not come here:
+// no such record fits.
 fn act(sh: Shape, table: &mut [u8], t: Task) -> Turn
-    requires { ⌜ Among 1 12 sh (now table) t ⌝ }
-    ensures { λ turn. ⌜ Follows ofPhase sh t (now (table .entry)) turn (now (table .exit)) ⌝ }
+    requires { ⌜ Acts sh (now table) t ⌝ }
+    ensures { λ turn. ⌜ taken turn (wordsOf (now (table .exit))) ≡ actsBy sh (wordsOf (now (table .entry))) t ⌝ }
 {
     let phase = t.phase;
     match phase {
-        1..=6 => Seeking(t).seek(sh, table),
-        _ => Settling(t).settle(sh, table),
+        0 | 13 => Turn::Refused(Refusal::AtRest),
+        1 => Busy(t).home(sh, table),
+        2 => Busy(t).look_left(sh, table),
+        3 => Busy(t).look_right(sh, table),
+        4 => Busy(t).lock_left(sh, table),
+        5 => Busy(t).lock_right(sh, table),
+        6 => Busy(t).back_off(sh, table),
+        7 => Busy(t).read(sh, table),
+        8 => Busy(t).fill_hand(sh, table),
+        9 => Busy(t).move_on(sh, table),
+        10 => Busy(t).mark(sh, table),
+        11 => Busy(t).free_left(sh, table),
+        12 => Busy(t).free_right(sh, table),
+        14..=255 => Turn::Refused(Refusal::BadTask),
     }
 }
 
-// On a busy record that fits: 6 by the guards or by the phase.
-fn busy_step(sh: Shape, table: &mut [u8], t: Task) -> Turn
-    requires { ⌜ InRange sh ⌝ ∗ ⌜ length (now table) ≡ 2 * places sh ⌝ ∗ ⌜ fit sh t ≡ true ⌝ ∗ ⌜ atRest t ≡ false ⌝ }
-    ensures { λ turn. ⌜ stepSays t turn (now (table .exit))
-        ≡ leftAfter (now (table .entry)) t (stepOf sh (wordsOf (now (table .entry))) t) ⌝ }
+// In phases 1 to 12 both guards must be unoccupied and sound; at rest nothing is asked of them.
+fn guards_good(sh: Shape, table: &[u8], t: Task) -> bool
+    requires { ⌜ InRange sh ⌝ ∗ ⌜ length (now table) ≡ 2 * places sh ⌝ }
+    ensures { λ b. ⌜ b ≡ guardsGood sh (wordsOf (now (table .entry))) t ⌝ }
 {
-    if guards_void(sh, table) {
-        act(sh, table, t)
+    if at_rest(t) {
+        true
     } else {
-        Turn::Refused(Refusal::Unsound)
+        guards_void(sh, table)
     }
 }
 
-// On a good table: 3 if the record does not fit, 5 at rest.
+// On a good table: 3 if the record does not fit, 5 at rest, 6 by the guards or the phase.
 fn step_of(sh: Shape, table: &mut [u8], t: Task) -> Turn
     requires { ⌜ InRange sh ⌝ ∗ ⌜ length (now table) ≡ 2 * places sh ⌝ }
     ensures { λ turn. ⌜ stepSays t turn (now (table .exit))
         ≡ leftAfter (now (table .entry)) t (stepOf sh (wordsOf (now (table .entry))) t) ⌝ }
 {
     if fits(sh, t) {
-        let phase = t.phase;
-        match phase {
-            0 | 13 => Turn::Refused(Refusal::AtRest),
-            _ => busy_step(sh, table, t),
+        if guards_good(sh, table, t) {
+            act(sh, table, t)
+        } else {
+            Turn::Refused(Refusal::Unsound)
         }
     } else {
         Turn::Refused(Refusal::BadTask)

@@ -3,21 +3,9 @@
 use rules::Refusal;
 use rules::Task;
 use rules::Turn;
+use task_fits::record::no_task;
 use task_step::give::give;
 use task_step::step::step;
-
-fn idle() -> Task {
-    Task {
-        key: 0,
-        phase: 0,
-        left: 0,
-        right: 0,
-        hand: 0,
-        goal: 0,
-        mark: 0,
-        answer: 0,
-    }
-}
 
 fn show_word(place: usize, low: u8, high: u8) {
     if low == 0 {
@@ -89,7 +77,7 @@ fn main() {
     let mut table: [u8; 20] = [0; 20];
     table[8] = 0x05;
     table[9] = 0x70;
-    let turn = give(3, 4, 0x31, idle());
+    let turn = give(3, 4, 0x31, no_task());
     match turn {
         Turn::Next(t) => run(&mut table, t),
         Turn::Refused(n) => show_refusal(n),

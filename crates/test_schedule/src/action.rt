@@ -1,6 +1,5 @@
 // One action of a schedule: a step, a give or a record stored as it is, by the length of its line.
 // Steps and gives go through the calls over lent records, by the first line's numbers or by their own.
-use crate::record::blank;
 use crate::record::put_record;
 use crate::record::record_in;
 use crate::record::two;
@@ -10,6 +9,7 @@ use frame_digits::read::number;
 use rules::Done;
 use rules::Refusal;
 use rules::Task;
+use task_fits::record::no_task;
 use task_records::Kept;
 use task_records::give_all;
 use task_records::step_all;
@@ -51,14 +51,14 @@ fn number_done(d: Done) -> u8 {
     }
 }
 
-// The record of a task; blank where there is no such task.
+// The record of a task; all zero where there is no such task.
 fn record_of(tasks: [Task; 16], count: usize, i: usize) -> Task {
     if i < count {
         if i < 16 {
             return tasks[i];
         }
     }
-    blank()
+    no_task()
 }
 
 fn store(tasks: [Task; 16], count: usize, i: usize, t: Task) -> Kept {

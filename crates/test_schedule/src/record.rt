@@ -17,20 +17,6 @@ pub fn two(s: &[u8], at: usize) -> u8
     (number(s, at, 2) % 256) as u8
 }
 
-// All zero: a record at the start, and where there is no such record.
-pub fn blank() -> Task {
-    Task {
-        key: 0,
-        phase: 0,
-        left: 0,
-        right: 0,
-        hand: 0,
-        goal: 0,
-        mark: 0,
-        answer: 0,
-    }
-}
-
 // The record of a line that stores one, behind the task number.
 pub fn record_in(line: &[u8]) -> Task
     requires { ⌜ length (now line) ≡ 40 ⌝ ∗ ⌜ all isDigit (now line) ≡ true ⌝ }

@@ -2,13 +2,13 @@
 // The table is lent whole; the shape uses a part of it.
 use crate::action::action;
 use crate::action::put_bad;
-use crate::record::blank;
 use crate::start::First;
 use crate::start::FirstLine;
 use crate::start::first_line;
 use crate::start::second_line;
 use frame_digits::print::put_words;
 use rules::Task;
+use task_fits::record::no_task;
 ghost use mathlib.Core.Path.{_≡_};
 ghost use Prim.Native.Nat.{_≤_};
 ghost use lib.ListN.{length};
@@ -30,7 +30,7 @@ pub struct Run {
 pub fn begun() -> Run {
     Run {
         stage: Reached::AtFirst,
-        tasks: [blank(); 16],
+        tasks: [no_task(); 16],
         wrote: 0,
     }
 }

@@ -29,7 +29,7 @@ use Rattle.rules.specs.Step.{Lent, refused, stepOf, lentAfter, step}
 use Rattle.table_words.specs.Range.{good-table, remainders-high}
 use Rattle.table_words.specs.Layout.{bytes-length, words-of-bytes, remainders-small}
 use Rattle.table_words.specs.Tests.{eqb-sym}
-use Rattle.table_words.specs.Busy.{rest-phase, works-phase}
+use Rattle.theory.specs.Record.{rest-phase, works-phase}
 use Rattle.theory.specs.Every as every
 use Rattle.theory.specs.Every.{All}
 use Rattle.theory.specs.Insert.{same-eq, holds-insert, or-swap}

@@ -13,7 +13,7 @@ use borrow.Author.Tests.{eqb-true, eqb-false, le-leb}
 use Rattle.rules.specs.declared.Task.{Task}
 use Rattle.rules.specs.Lists.{bitOf, count, all}
 use Rattle.rules.specs.Record.{within, busy, atRest, noTask, taskAt}
-use Rattle.table_words.specs.Busy.{resting, is-busy, done-or-beyond, rest-phase, rest-not-busy}
+use Rattle.theory.specs.Record.{resting, is-busy, done-or-beyond, rest-phase, rest-not-busy}
 use Rattle.theory.specs.Dealt.{and-left, and-right}
 use Rattle.together.specs.Machine.{Said, timesSaid, timesInserted}
 use Rattle.together.specs.Walk.{weight}

@@ -23,7 +23,7 @@ use Rattle.rules.specs.Phase as phase
 use Rattle.rules.specs.Phase.{Step, to}
 use Rattle.rules.specs.Step.{ofPhase, steps, orUnsound, stepOf}
 use Rattle.table_words.specs.Split.{split-in-shape}
-use Rattle.table_words.specs.Busy.{not-resting}
+use Rattle.theory.specs.Record.{not-resting}
 use Rattle.theory.specs.Dealt.{and-left, and-right}
 use Rattle.theory.specs.Locks.{void-unlock}
 use Rattle.theory.specs.Gaps as gaps

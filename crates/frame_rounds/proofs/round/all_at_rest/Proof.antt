@@ -6,7 +6,7 @@ use native.Mathlib.Omega.{arith}
 use lib.ListN.{take, drop}
 use Rattle.rules.specs.Lists.{all}
 use Rattle.rules.specs.Record.{atRest}
-use Rattle.table_words.specs.Busy.{resting, not-resting}
+use Rattle.theory.specs.Record.{resting, not-resting}
 use Rattle.frame_rounds.specs.Desk.{rest-on, rest-stops, rest-ends}
 use Rattle.frame_rounds.proofs.round.all_at_rest.Statement.{statement}
 use Rattle.frame_rounds.proofs.round.all_at_rest.Tie as tie

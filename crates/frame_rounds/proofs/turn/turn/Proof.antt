@@ -1,7 +1,7 @@
 -- `turn` meets its contract: the task is at rest or busy.
 -- Assumes nothing.
 use borrow.Author.Needs.{needs}
-use Rattle.table_words.specs.Busy.{resting, not-resting}
+use Rattle.theory.specs.Record.{resting, not-resting}
 use Rattle.frame_rounds.specs.Sitting.{turn-rest, turn-steps}
 use Rattle.frame_rounds.proofs.turn.turn.Statement.{statement}
 use Rattle.frame_rounds.proofs.turn.turn.Tie as tie

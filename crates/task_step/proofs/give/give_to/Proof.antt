@@ -3,7 +3,7 @@
 use borrow.Author.Needs.{needs}
 use mathlib.Core.Logic.{⊎-elim}
 use Rattle.rules.specs.Give.{giveTo}
-use Rattle.table_words.specs.Busy.{is-busy, idle, done-or-beyond}
+use Rattle.theory.specs.Record.{is-busy, idle, done-or-beyond}
 use Rattle.task_step.proofs.give.give_to.Statement.{statement}
 use Rattle.task_step.proofs.give.give_to.Tie as tie
 
