@@ -23,7 +23,8 @@ pub data Step : Type 0 where
   to : Task → List Word → Step
   unsound : Step
 
--- 1 home: word locked, stay (it begins again); word 0, fill it, answer 2, phase 13; occupied, left = H − 1, phase 2; otherwise 6
+-- 1 home: word locked, stay, which is to begin again; word 0, fill it, answer 2, phase 13; occupied, left = H − 1,
+-- phase 2; otherwise 6
 unfoldable pub home : Shape → List Word → Task → Step
 home sh ws t =
     cond (at ws (homePlaceOf sh t) .lock)

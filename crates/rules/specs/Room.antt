@@ -31,6 +31,7 @@ roomAt onLeft left right = place left
 roomAt onRight left right = place right
 roomAt onNeither left right = full
 
+-- where the home is occupied: beside its cluster
 unfoldable pub roomBeside : Shape → List Bool → ℕ → Room
 roomBeside sh os homeAt =
     roomAt (whichEnd sh (leftGap os homeAt) (rightGap os homeAt)) (leftGap os homeAt) (rightGap os homeAt)

@@ -1,5 +1,5 @@
 // Give and step over lent records (01, Tasks and their steps): one record is read, handed by value to the crate
-// `tasks`, and stored back. Sixteen records by value, lent for a call, for callers that have no slice of them.
+// `task_step`, and stored back. Sixteen records by value, lent for a call, for callers that have no slice of them.
 use rules::Done;
 use rules::Refusal;
 use rules::Task;

@@ -125,7 +125,8 @@ module _ {sh : Shape} {bytes : List ℕ} {t : Task} (a : Acts sh bytes t) {n : �
           fits = fitting sh t (a .fits) awake;
         }
 
-    pub acts-busy : {s : Step} → ofPhase sh (wordsOf bytes) t ≡ s → takes (wordsOf bytes) s ≡ actsBy sh (wordsOf bytes) t
+    pub acts-busy :
+        {s : Step} → ofPhase sh (wordsOf bytes) t ≡ s → takes (wordsOf bytes) s ≡ actsBy sh (wordsOf bytes) t
     acts-busy e = rw (awake, e)
 
 -- no record with a phase above 13 fits

@@ -1,6 +1,6 @@
 -- The gaps on the two sides of a place, and the place that the rule names: laws over the occupied places alone.
 -- `Gap` says what a gap is; by `gap-is` and `gap-eq` it is what `leftGap` and `rightGap` find, and nothing else.
--- `Chosen` is the view of `roomFor`, over the side where the rule looks first.
+-- `Picks` is the view of `whichEnd`, `Chosen` that of `roomFor`, over the side where the rule looks first.
 -- Assumes nothing.
 use Prim.Native.Nat.{ℕ, zero, suc, _+_, _-_, _≤_, _<_}
 use mathlib.Core.Path.{_≡_, refl, sym, ap, _∙_}

@@ -52,7 +52,8 @@ returns-3 c =
     let start = asked .before in
     rw (asked .if1 .left)
     (rw (picked-only (start .args .sh) (start .args .t .left) (start .args .t .right)
-    (picks-right (guard .before .if2 .taken) (λ e. omega (arith, c .before .before .if3 .left, guard .right-guard .ensures))))
+    (picks-right (guard .before .if2 .taken)
+    (λ e. omega (arith, c .before .before .if3 .left, guard .right-guard .ensures))))
     (c .aimed .ensures))
 
 returns-4 : tie.Need-returns-4
