@@ -24,7 +24,7 @@ pub fn good_key(sh: Shape, key: u32) -> bool
 
 pub fn home_of(sh: Shape, key: u32) -> Home
     requires { ⌜ InRange sh ⌝ }
-    ensures { λ h. ⌜ h .0 ≡ homeOf sh key ⌝ }
+    ensures { λ home. ⌜ home .0 ≡ homeOf sh key ⌝ }
 {
     Home(key / remainders(sh))
 }
