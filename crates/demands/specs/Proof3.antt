@@ -31,7 +31,8 @@ use Rattle.theory.specs.Insert.{Within, ascend-asc, ascend-same, holds-ascend, 
 use Rattle.theory.specs.Seen.{Right, right-end, right-more, Table, table}
 use Rattle.theory.specs.Putting.{Puts, found, inserted, overflow}
 use Rattle.theory.specs.Building.{Roomy, State, Inside, after-put, added-state, puts-ascend, Left, puts-state}
-use Rattle.theory.specs.Keys.{table-inside, within-in-shape, split-within, Ascending, ascending-none, ascending-next, listed}
+use Rattle.theory.specs.Keys.{table-inside, within-in-shape, split-within, listed}
+use Rattle.theory.specs.Keys.{Ascending, ascending-none, ascending-next}
 use Rattle.demands.specs.Terms.{PlainTable, listOf, InKeys, entriesOf, distinct, putAll, left-by, Builds}
 use Rattle.demands.specs.Tables.{in-range-of, low-of, state-of}
 use Rattle.demands.specs.Tables.{words-back, plain-of, entries-back}

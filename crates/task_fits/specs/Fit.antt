@@ -1,5 +1,5 @@
 -- When a record fits (01, Tasks and their steps). `Fits`: what holds of a busy one; `fitting`: its test tells it.
--- `resting-fits` to `beyond-fits`: how the phase alone decides. `work-none`: where hand, goal and mark are not asked about.
+-- `resting-fits` to `beyond-fits`: how the phase alone decides. `work-none`: hand, goal and mark are not asked about.
 -- Assumes nothing.
 use Prim.Native.Nat.{suc, _≤_, _<_}
 use mathlib.Core.Path.{_≡_, refl, sym}

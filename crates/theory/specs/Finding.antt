@@ -23,7 +23,8 @@ use Rattle.theory.specs.RunLaws.{run-is-sound, run-occupied, run-entries
 use Rattle.theory.specs.Insert.{asc-all, held-all, holds-below, holds-append}
 use Rattle.theory.specs.Gaps.{HomePlace}
 use Rattle.theory.specs.Seen.{Table, table, AtGap, InRun, Located, at-gap, in-run, locate, left-asc, right-asc}
-use Rattle.theory.specs.Places.{void-free, at-seam, at-after, seam-free, gap-left, gap-right, gap-cluster, gap-entries}
+use Rattle.theory.specs.Places.{void-free, at-seam, at-after, seam-free}
+use Rattle.theory.specs.Places.{gap-left, gap-right, gap-cluster, gap-entries}
 use Rattle.theory.specs.Places.{run-left, run-right, run-cluster, run-cluster-entries}
 use Rattle.theory.specs.SoundTable.{table-guards, nothing-sound}
 

@@ -8,8 +8,8 @@ use Rattle.rules.specs.Answer.{says}
 use Rattle.table_read.specs.Read.{entry, readOf}
 use Rattle.table_read.specs.declared.read.Read.{Read}
 use Rattle.table_find.specs.Around as around
-use Rattle.table_find.specs.Around.{Crowded, left-owed, right-owed, check-owed, told-sound, told-locked, told-open}
-use Rattle.table_find.specs.Around.{crowded-inside, read-beside, beside-cluster}
+use Rattle.table_find.specs.Around.{Crowded, left-owed, right-owed, check-owed, crowded-inside, read-beside}
+use Rattle.table_find.specs.Around.{beside-cluster, told-sound, told-locked, told-open}
 use Rattle.table_find.specs.Finding.{found-unsound, found-locked, found-inside}
 use Rattle.table_find.proofs.find.find_cluster.Statement.{statement}
 use Rattle.table_find.proofs.find.find_cluster.Tie as tie
