@@ -77,7 +77,8 @@ module _ (ws : List Word) (p : ℕ) (empty : at ws p .occupied ≡ false) where
   gap-entries =
       ap (λ (vs : List Word). deal (virginPlaces (suc (leftGap (occupiedPlaces ws) p)) vs) vs) gap-cluster
 
-pub seam-free : (u : List Word) (g : Word) (v : List Word) → isVoid g ≡ true → at (u ++ (g ∷ v)) (length u) .occupied ≡ false
+pub seam-free :
+    (u : List Word) (g : Word) (v : List Word) → isVoid g ≡ true → at (u ++ (g ∷ v)) (length u) .occupied ≡ false
 seam-free u g v void = ap isOccupied (at-seam u g v) ∙ void-free g void
 
 -- ---- a place of a run

@@ -198,7 +198,12 @@ give-tally key ts i t′ lt rest one = (
     light (loaded-rest rest),
     light′,
   ),
-  omega (arith, count-set (λ (u : Task). eqb (u .key) key && busy u) ts i t′ noTask lt, idle (rest-not-busy t (resting t rest)), new),
+  omega (
+    arith,
+    count-set (λ (u : Task). eqb (u .key) key && busy u) ts i t′ noTask lt,
+    idle (rest-not-busy t (resting t rest)),
+    new,
+  ),
 )
   where
     t : Task

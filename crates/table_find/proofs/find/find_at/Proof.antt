@@ -31,7 +31,8 @@ find-cluster-requires c κs =
     let guarded = c .before .before .before in
     let start = guarded .before .before .before in
     let void = sym (guarded .before .guards-void .ensures) ∙ guarded .if1 .taken in
-    (start .pre .0, (start .pre .1 .0, (start .pre .1 .1, (void, home-bit (c .before .before .word-at .ensures) (c .before .occupied .ensures) (c .if2 .taken)))))
+    let full = home-bit (c .before .before .word-at .ensures) (c .before .occupied .ensures) (c .if2 .taken) in
+    (start .pre .0, (start .pre .1 .0, (start .pre .1 .1, (void, full))))
 
 find-alone-requires : tie.Need-find-alone-requires
 find-alone-requires c κs = search needs

@@ -37,10 +37,9 @@ unfolding places
 left-end-requires c κs =
     let full = c .before in
     let start = full .before .before .before .before .before in
-    let void = open-guards (free start) in (
-      omega (arith, start .pre .1 .1 .0 .home-high),
-      (left-free (start .args .sh) _ void, home-bit (full .before .before .word-at .ensures) (full .before .occupied .ensures) (full .if1 .taken)),
-    )
+    let void = open-guards (free start) in
+    let bit = home-bit (full .before .before .word-at .ensures) (full .before .occupied .ensures) (full .if1 .taken) in
+    (omega (arith, start .pre .1 .1 .0 .home-high), (left-free (start .args .sh) _ void, bit))
 
 put-beside-requires : tie.Need-put-beside-requires
 put-beside-requires c κs =

@@ -31,7 +31,8 @@ put-cluster-requires c κs =
     let guarded = full .before .before .before .before in
     let start = guarded .before .before .before .before in
     let void = sym (guarded .before .guards-void .ensures) ∙ guarded .if1 .taken in
-    (start .pre .0, (start .pre .1 .0, (start .pre .1 .1, (void, home-bit (full .before .before .word-at .ensures) (full .before .occupied .ensures) (full .if2 .taken)))))
+    let bit = home-bit (full .before .before .word-at .ensures) (full .before .occupied .ensures) (full .if2 .taken) in
+    (start .pre .0, (start .pre .1 .0, (start .pre .1 .1, (void, bit))))
 
 same-length : tie.Need-same-length
 same-length c = search needs
