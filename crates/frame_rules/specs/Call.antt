@@ -6,12 +6,12 @@ use mathlib.Core.Bool.{cond}
 use mathlib.Core.List.{List, _++_}
 use lib.ListN.{length, drop}
 use lib.Dec.{leb}
-use Rattle.rules.specs.Shape.{shapeOf, goodTable}
-use Rattle.rules.specs.Record.{within}
+use Rattle.rules.specs.Shape.{goodTable}
 use Rattle.rules.specs.Answer.{numberOfRefusal}
+use Rattle.frame_rules.specs.declared.First.{First}
 use Rattle.frame_rules.specs.declared.LineAnswer.{LineAnswer}
 use Rattle.frame_rules.specs.declared.LineAnswer.the-variants as line-answer
-use Rattle.frame_rules.specs.Lines.{keysOf, goodLine}
+use Rattle.frame_rules.specs.Lines.{tasksInLimits, keysOf, goodLine}
 use Rattle.frame_rules.specs.Rounds.{Floor, allAnswered, play}
 
 -- what the line came to: passed over; ended; its n keys answered; or a refusal's number
@@ -46,15 +46,15 @@ played ks slots p =
       slots = p .answers ++ drop (length ks) slots;
     }
 
--- line (m, r, number of tasks, the lent table, a line's bytes, the lent slots): 1 by shape and table, 3 where the
+-- line (shape and number of tasks, the lent table, a line's bytes, the lent slots): 1 by shape and table, 3 where the
 -- tasks are none or more than 16, 9 where a good line has more keys than there are slots
-unfoldable pub line : ℕ → ℕ → ℕ → List ℕ → List ℕ → List ℕ → Line
-line m r n bytes text slots =
-    cond (goodTable (shapeOf m r) (length bytes))
-    (cond (within 1 16 n)
-    (cond (goodLine (shapeOf m r) text)
+unfoldable pub line : First → List ℕ → List ℕ → List ℕ → Line
+line f bytes text slots =
+    cond (goodTable (f .shape) (length bytes))
+    (cond (tasksInLimits (f .tasks))
+    (cond (goodLine (f .shape) text)
     (cond (leb (length (keysOf text)) (length slots))
-    (played (keysOf text) slots (play m r n bytes (keysOf text)))
+    (played (keysOf text) slots (play f bytes (keysOf text)))
     (leftAlone (refused 9) bytes slots))
     (leftAlone passedOver bytes slots))
     (leftAlone (refused 3) bytes slots))

@@ -1,5 +1,6 @@
 -- Document 01's example of the frame program, and small inputs worked out from its text, as rows of one table, and the
--- one claim that the definitions print what the paper says: the whole output of each input.
+-- one claim that the definitions print what the paper says: the whole output of each input. `table-lines`: a table's
+-- line, read.
 -- Assumes nothing.
 use Prim.Native.Nat.{ℕ}
 use Prim.Native.Char.{code}
@@ -23,7 +24,9 @@ use Rattle.rules.specs.Phase.{setChange, setVirgin, marked, mark, freeLeft, fre
 use Rattle.rules.specs.Step.{ofPhase, stepOf, step}
 use Rattle.rules.specs.Give.{given, goodTask, giveTo, give}
 use Rattle.frame_rules.specs.Digits.{isDigit, worth, numberAfter, number, glyph, digitsOf, wordDigits}
-use Rattle.frame_rules.specs.Lines.{linesAfter, linesOf, firstOf, inLimits, goodFirst, firstKeys, keysOf, goodLine}
+use Rattle.frame_rules.specs.Lines.{linesAfter, linesOf, firstOf, shapeInLimits, tasksInLimits, inLimits, goodFirst}
+use Rattle.frame_rules.specs.Lines.{firstKeys, keysOf, goodLine}
+use Rattle.frame_rules.specs.TableLine.{goodTableLine, firstWords, tableOfLine, TableRead, tableRead, readTable}
 use Rattle.frame_rules.specs.Rounds.{start, turn, turns, round, allAnswered, rounds, limit, play}
 use Rattle.frame_rules.specs.Frame.{dawn, used, firstLine, playedLine, frameLine, lineIn, atEnd, outputFrom, output}
 
@@ -97,9 +100,36 @@ unfolding count all any wordOf numberOf isVoid isZero isLock wordsOf bytesOf inR
     fitsBusy fits home lookLeft lookRight lockLeft lockRight backOff readable smaller markOf handOf goalOf
     readEntries read movesOn fillHand neighbour exchange move setChange setVirgin marked mark freeLeft freeRight
     ofPhase stepOf step given goodTask giveTo give isDigit worth numberAfter number glyph digitsOf wordDigits
-    linesAfter linesOf firstOf inLimits goodFirst firstKeys keysOf goodLine start turn turns round allAnswered
+    linesAfter linesOf firstOf shapeInLimits tasksInLimits inLimits goodFirst firstKeys keysOf goodLine start turn turns round allAnswered
     rounds limit play dawn used firstLine playedLine frameLine lineIn atEnd outputFrom output
 rows-hold = refl
+
+-- a table's line, shape 1, 1, read over n bytes of 1; and what a bad line leaves of them
+abbrev readOver : ℕ → String → TableRead
+readOver n text = readTable (shapeOf 1 1) (bytes text) (replicate n 1)
+
+abbrev unread : ℕ → TableRead
+unread n = tableRead false (replicate n 1)
+
+-- either letter case; a digit too few, one too many, no digit; and tables of another length
+pub table-lines :
+    readOver 8 "00001aBc7001FFFF"
+    ∷ readOver 8 "00001aBc7001FFF"
+    ∷ readOver 8 "00001aBc7001FFFF0"
+    ∷ readOver 8 "00001aBc7001FFFG"
+    ∷ readOver 10 "00001aBc7001FFFF"
+    ∷ readOver 6 "00001aBc7001"
+    ∷ []
+    ≡ tableRead true (0 ∷ 0 ∷ 188 ∷ 26 ∷ 1 ∷ 112 ∷ 255 ∷ 255 ∷ [])
+    ∷ unread 8
+    ∷ unread 8
+    ∷ unread 8
+    ∷ unread 10
+    ∷ unread 6
+    ∷ []
+unfolding all inRange homes places fitsLength goodTable isDigit worth numberAfter number firstWords tableOfLine
+    goodTableLine readTable
+table-lines = refl
 
 -- 512 keys are a line, and 513 are not (a run of 512 keys is too long to compute here)
 pub longest-line : map (λ (n : ℕ). goodLine (shapeOf 1 1) (replicate n 48)) (4096 ∷ 4104 ∷ []) ≡ true ∷ false ∷ []

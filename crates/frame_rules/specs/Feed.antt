@@ -1,13 +1,14 @@
 -- Feeding the input in pieces: `feed` takes the rest of one line from a piece, `finish` ends the input, each with every
--- lent byte as it leaves it. The crate `pieces` shows that any pieces, fed and finished, write what Frame says.
+-- lent byte as it leaves it. The crate frame_pieces shows that any pieces, fed and finished, write what Frame says.
 -- Assumes nothing.
 use Prim.Native.Nat.{ℕ, suc, _+_}
 use mathlib.Core.Bool.{Bool, true, cond, _&&_}
 use mathlib.Core.List.{List, [], _∷_, _++_}
 use lib.ListN.{length, take, drop, replicate}
 use lib.Dec.{leb, ltb, eqb}
-use Rattle.rules.specs.Record.{within}
+use Rattle.rules.specs.Listing.{atFront}
 use Rattle.rules.specs.Answer.{numberOfRefusal}
+use Rattle.frame_rules.specs.declared.First.{First}
 use Rattle.frame_rules.specs.declared.Run.{Run}
 use Rattle.frame_rules.specs.declared.Stage.{Stage}
 use Rattle.frame_rules.specs.declared.Stage.the-variants.{AtFirst, Among, Ended}
@@ -15,9 +16,8 @@ use Rattle.frame_rules.specs.declared.FeedAnswer.{FeedAnswer}
 use Rattle.frame_rules.specs.declared.FeedAnswer.the-variants as feed-answer
 use Rattle.frame_rules.specs.declared.FinishAnswer.{FinishAnswer}
 use Rattle.frame_rules.specs.declared.FinishAnswer.the-variants as finish-answer
-use Rattle.frame_rules.specs.Lines.{First}
-use Rattle.frame_rules.specs.Frame as frame
-use Rattle.frame_rules.specs.Frame.{Day, After, atFirst, among, ended, lineIn, atEnd}
+use Rattle.frame_rules.specs.Lines.{shapeInLimits, tasksInLimits}
+use Rattle.frame_rules.specs.Frame.{Day, After, lineIn, atEnd}
 
 -- what is lent: the line begun, the table, and room for what is printed
 pub record Buffers : Type 0 where
@@ -28,40 +28,35 @@ pub record Buffers : Type 0 where
 abbrev pub lentBuffers : List ℕ → List ℕ → List ℕ → Buffers
 lentBuffers line table out = record { line = line; table = table; out = out }
 
--- what the first line said
-abbrev pub firstIn : Run → First
-firstIn run = record { m = run .m; r = run .r; tasks = run .tasks }
-
 -- a run and the table as Frame has them
-abbrev pub stageOf : Stage → First → frame.Stage
-stageOf AtFirst f = atFirst
-stageOf Among f = among f
-stageOf Ended f = ended
-
-unfoldable pub dayOf : Run → List ℕ → Day
-dayOf run table = record { stage = stageOf (run .stage) (firstIn run); table = table }
+abbrev pub dayOf : Run → List ℕ → Day
+dayOf run table = record { stage = run .stage; table = table }
 
 -- the run of a stage, with no byte of a line held
-abbrev pub runOf : frame.Stage → Run
-runOf atFirst = record { stage = AtFirst; m = 0; r = 0; tasks = 0; held = 0 }
-runOf (among f) = record { stage = Among; m = f .m; r = f .r; tasks = f .tasks; held = 0 }
-runOf ended = record { stage = Ended; m = 0; r = 0; tasks = 0; held = 0 }
+abbrev pub runOf : Stage → Run
+runOf stage = record { stage = stage; held = 0 }
 
 abbrev pub withHeld : Run → ℕ → Run
-withHeld run n = record { stage = run .stage; m = run .m; r = run .r; tasks = run .tasks; held = n }
+withHeld run n = record { stage = run .stage; held = n }
 
--- among frames, m 1 to 14, r 1 to 12, and 1 to 16 tasks
-abbrev pub ifAmong : Stage → Bool → Bool
-ifAmong AtFirst b = true
-ifAmong Among b = b
-ifAmong Ended b = true
+-- among frames, whether what the first line said passes a test
+abbrev pub ifAmong : Stage → (First → Bool) → Bool
+ifAmong AtFirst test = true
+ifAmong (Among f) test = test f
+ifAmong Ended test = true
+
+abbrev pub goodShapeAt : Stage → Bool
+goodShapeAt stage = ifAmong stage (λ (f : First). shapeInLimits (f .shape))
+
+abbrev pub goodTasksAt : Stage → Bool
+goodTasksAt stage = ifAmong stage (λ (f : First). tasksInLimits (f .tasks))
 
 -- 0, or the refusal's number: 1 by shape and table, 3 by the tasks, 9 where a line of 4,096 bytes or what is printed
 -- could not be held (at most a line of answers, 1,025 bytes, and the table's, 65,545)
 unfoldable pub refusal : Run → Buffers → ℕ
 refusal run b =
-    cond (ifAmong (run .stage) (within 1 14 (run .m) && within 1 12 (run .r)) && eqb (length (b .table)) 32772)
-    (cond (ifAmong (run .stage) (within 1 16 (run .tasks)))
+    cond (goodShapeAt (run .stage) && eqb (length (b .table)) 32772)
+    (cond (goodTasksAt (run .stage))
     (cond (leb 4096 (length (b .line)) && leb 66570 (length (b .out))) 0 9)
     3)
     1
@@ -85,10 +80,6 @@ lineAfter line held more =
 -- the line that is held; one that is too long is bad, whatever it holds
 unfoldable pub heldLine : ℕ → List ℕ → List ℕ
 heldLine held line = cond (leb held 4096) (take held line) (replicate 4097 0)
-
--- text at the front of the room for it
-abbrev pub atFront : List ℕ → List ℕ → List ℕ
-atFront text out = text ++ drop (length text) out
 
 -- what feeding leaves: the run that follows, the point reached in the piece, and how much is printed
 pub data Feeding : Type 0 where

@@ -8,22 +8,25 @@ use mathlib.Core.List.{List, [], _∷_, _++_, map}
 use lib.ListN.{length, take, replicate}
 use Rattle.rules.specs.Lists.{all}
 use Rattle.rules.specs.Shape.{homes, places}
+use Rattle.rules.specs.Listing.{atFront}
 use Rattle.frame_rules.specs.declared.Run.{Run}
 use Rattle.frame_rules.specs.declared.Stage.{Stage}
 use Rattle.frame_rules.specs.declared.Stage.the-variants.{AtFirst, Among, Ended}
 use Rattle.frame_rules.specs.Digits.{isDigit, worth, numberAfter, number, glyph, wordDigits}
-use Rattle.frame_rules.specs.Lines.{firstOf, inLimits, goodFirst, goodLine}
+use Rattle.frame_rules.specs.Lines.{first, firstOf, shapeInLimits, tasksInLimits, inLimits, goodFirst, goodLine}
 use Rattle.frame_rules.specs.Frame.{used, firstLine, frameLine, lineIn, atEnd}
-use Rattle.frame_rules.specs.Feed.{Buffers, lentBuffers, dayOf, refusal, lineLength, heldAfter, lineAfter, heldLine}
+use Rattle.frame_rules.specs.Feed.{Buffers, lentBuffers, refusal, lineLength, heldAfter, lineAfter, heldLine}
 use Rattle.frame_rules.specs.Feed.{Feeding, feeds, refused, heldOrClosed, feedGood, feed}
 use Rattle.frame_rules.specs.Feed.{Finishing, finishes, refusedToo, lastLine, finishGood, finish}
 use Rattle.frame_rules.specs.Examples.{bytes}
 
--- a run at a stage, among frames with shape 1, 2 and three tasks, that holds n bytes of a line
+-- among frames with shape 1, 2 and three tasks
+abbrev among : Stage
+among = Among (first 1 2 3)
+
+-- a run at a stage that holds n bytes of a line
 abbrev runAt : Stage → ℕ → Run
-runAt AtFirst n = record { stage = AtFirst; m = 0; r = 0; tasks = 0; held = n }
-runAt Among n = record { stage = Among; m = 1; r = 2; tasks = 3; held = n }
-runAt Ended n = record { stage = Ended; m = 0; r = 0; tasks = 0; held = n }
+runAt stage n = record { stage = stage; held = n }
 
 -- buffers that are long enough, with a line begun and a table of zeros
 abbrev buffers : List ℕ → Buffers
@@ -68,26 +71,26 @@ abbrev pub feedRows : List FeedRow
 feedRows =
     -- the first line in two pieces: what is held stands before what comes, and the line feed is passed
     fed AtFirst "" "0102" 0 AtFirst 4 "0102" ""
-    ∷ fed AtFirst "0102" "03\n0000" 0 Among 3 "" ""
+    ∷ fed AtFirst "0102" "03\n0000" 0 among 3 "" ""
     -- one call takes one line, and the next goes on at the point reached
-    ∷ fed AtFirst "" "010203\n000\n0001" 0 Among 7 "" ""
-    ∷ fed Among "" "010203\n000\n0001" 7 Among 11 "" "EE\n"
-    ∷ fed Among "" "010203\n000\n0001" 11 Among 15 "0001" ""
-    ∷ fed Among "0001" "23" 0 Among 2 "000123" ""
+    ∷ fed AtFirst "" "010203\n000\n0001" 0 among 7 "" ""
+    ∷ fed among "" "010203\n000\n0001" 7 among 11 "" "EE\n"
+    ∷ fed among "" "010203\n000\n0001" 11 among 15 "0001" ""
+    ∷ fed among "0001" "23" 0 among 2 "000123" ""
     -- a line feed alone ends what is held: a bad first line
     ∷ fed AtFirst "01020G" "\n" 0 Ended 1 "" "EE\n"
     -- an ended run prints nothing more
     ∷ fed Ended "" "010203\n" 0 Ended 7 "" ""
     -- a piece whose end is reached already
-    ∷ fed Among "000" "010203\n" 7 Among 7 "000" ""
+    ∷ fed among "000" "010203\n" 7 among 7 "000" ""
     ∷ []
 
 pub feeds-hold :
     map (λ (r : FeedRow). seen (feed (runAt (r .stage) (length (r .begun))) (r .piece) (r .at) (buffers (r .begun))))
     feedRows
     ≡ map (λ (r : FeedRow). left (runAt (r .next) (length (r .held))) (r .point) (r .held) (r .prints)) feedRows
-unfolding all isDigit worth numberAfter number firstOf inLimits goodFirst goodLine firstLine frameLine lineIn dayOf
-    refusal lineLength heldAfter lineAfter heldLine heldOrClosed feedGood feed
+unfolding all isDigit worth numberAfter number firstOf shapeInLimits tasksInLimits inLimits goodFirst goodLine firstLine
+    frameLine lineIn atFront refusal lineLength heldAfter lineAfter heldLine heldOrClosed feedGood feed
 feeds-hold = refl
 
 -- a line of 4,096 bytes is held whole; a longer one is only counted, as 4,097
@@ -115,16 +118,16 @@ endRows =
     ∷ ends AtFirst "010203" "0000000000000000\n"
     ∷ ends AtFirst "0101" "EE\n"
     -- a last line that lacks its line feed is a line
-    ∷ ends Among "" "0000000000000000\n"
-    ∷ ends Among "000" "EE\n0000000000000000\n"
+    ∷ ends among "" "0000000000000000\n"
+    ∷ ends among "000" "EE\n0000000000000000\n"
     ∷ ends Ended "000" ""
     ∷ []
 
 pub ends-hold :
     map (λ (r : EndRow). shown (finish (runAt (r .stage) (length (r .begun))) (buffers (r .begun)))) endRows
     ≡ map (λ (r : EndRow). left (runAt Ended 0) (length (r .prints)) [] (r .prints)) endRows
-unfolding all homes places isDigit worth numberAfter number glyph wordDigits firstOf inLimits goodFirst goodLine used
-    firstLine frameLine lineIn atEnd dayOf refusal heldLine lastLine finishGood finish
+unfolding all homes places isDigit worth numberAfter number glyph wordDigits firstOf shapeInLimits tasksInLimits inLimits goodFirst
+    goodLine used firstLine frameLine lineIn atEnd atFront refusal heldLine lastLine finishGood finish
 ends-hold = refl
 
 -- ---- the refusals, each at its limit
@@ -142,7 +145,7 @@ limit m r tasks line table out = record { m = m; r = r; tasks = tasks; line = li
 abbrev number-of : Limit → ℕ
 number-of l =
     refusal
-    (record { stage = Among; m = l .m; r = l .r; tasks = l .tasks; held = 0 })
+    (runAt (Among (first (l .m) (l .r) (l .tasks))) 0)
     (lentBuffers (replicate (l .line) 0) (replicate (l .table) 0) (replicate (l .out) 0))
 
 pub refusals-hold :
@@ -159,5 +162,5 @@ pub refusals-hold :
     ∷ limit 1 1 0 4095 32772 66569
     ∷ [])
     ≡ 0 ∷ 1 ∷ 1 ∷ 1 ∷ 3 ∷ 9 ∷ 9 ∷ 1 ∷ 3 ∷ []
-unfolding refusal
+unfolding shapeInLimits tasksInLimits refusal
 refusals-hold = refl

@@ -5,29 +5,26 @@ use Prim.Native.Nat.{ℕ, _*_}
 use mathlib.Core.Bool.{cond}
 use mathlib.Core.List.{List, [], _∷_, _++_}
 use lib.ListN.{take, drop, replicate}
-use Rattle.rules.specs.Shape.{shapeOf, places}
+use Rattle.rules.specs.Shape.{places}
+use Rattle.frame_rules.specs.declared.First.{First}
+use Rattle.frame_rules.specs.declared.Stage.{Stage}
+use Rattle.frame_rules.specs.declared.Stage.the-variants.{AtFirst, Among, Ended}
 use Rattle.frame_rules.specs.Digits.{digitsOf, wordDigits}
-use Rattle.frame_rules.specs.Lines.{linesOf, First, firstOf, goodFirst, keysOf, goodLine}
+use Rattle.frame_rules.specs.Lines.{linesOf, firstOf, goodFirst, keysOf, goodLine}
 use Rattle.frame_rules.specs.Rounds.{Floor, allAnswered, play}
 
--- how far a run is: its first line, its frames, or the end
-pub data Stage : Type 0 where
-  atFirst : Stage
-  among : First → Stage
-  ended : Stage
-
--- that, and the table's 32,772 bytes
+-- how far a run is, and the table's 32,772 bytes
 pub record Day : Type 0 where
   pub stage : Stage
   pub table : List ℕ
 
 -- the table starts as 32,772 zero bytes
 unfoldable pub dawn : Day
-dawn = record { stage = atFirst; table = replicate 32772 0 }
+dawn = record { stage = AtFirst; table = replicate 32772 0 }
 
 -- the part of it that the shape uses, and the table with that part as it now is
 unfoldable pub used : First → ℕ
-used f = 2 * places (shapeOf (f .m) (f .r))
+used f = 2 * places (f .shape)
 
 abbrev pub usedPart : First → List ℕ → List ℕ
 usedPart f table = take (used f) table
@@ -53,37 +50,37 @@ error = printed (69 ∷ 69 ∷ [])
 
 -- a bad first line prints EE and ends the run
 unfoldable pub firstLine : List ℕ → List ℕ → After
-firstLine table line = cond (goodFirst line) (after (among (firstOf line)) table []) (after ended table error)
+firstLine table line = cond (goodFirst line) (after (Among (firstOf line)) table []) (after Ended table error)
 
 -- the rounds are over: the answers in key order, or EE and the end of the run
 unfoldable pub playedLine : First → List ℕ → List ℕ → Floor → After
 playedLine f table ks p =
     cond
     (allAnswered ks p)
-    (after (among f) (withUsed f (p .table) table) (printed (digitsOf (p .answers))))
-    (after ended (withUsed f (p .table) table) error)
+    (after (Among f) (withUsed f (p .table) table) (printed (digitsOf (p .answers))))
+    (after Ended (withUsed f (p .table) table) error)
 
 -- a line that is no line of keys prints EE and is passed over
 unfoldable pub frameLine : First → List ℕ → List ℕ → After
 frameLine f table line =
     cond
-    (goodLine (shapeOf (f .m) (f .r)) line)
-    (playedLine f table (keysOf line) (play (f .m) (f .r) (f .tasks) (usedPart f table) (keysOf line)))
-    (after (among f) table error)
+    (goodLine (f .shape) line)
+    (playedLine f table (keysOf line) (play f (usedPart f table) (keysOf line)))
+    (after (Among f) table error)
 
 abbrev pub lineAt : Stage → List ℕ → List ℕ → After
-lineAt atFirst table line = firstLine table line
-lineAt (among f) table line = frameLine f table line
-lineAt ended table line = after ended table []
+lineAt AtFirst table line = firstLine table line
+lineAt (Among f) table line = frameLine f table line
+lineAt Ended table line = after Ended table []
 
 unfoldable pub lineIn : Day → List ℕ → After
 lineIn d line = lineAt (d .stage) (d .table) line
 
 -- after the last line: a missing first line is EE; an ended run prints nothing more; else all words from place 0
 abbrev pub endAt : Stage → List ℕ → List ℕ
-endAt atFirst table = error
-endAt (among f) table = printed (wordDigits (usedPart f table))
-endAt ended table = []
+endAt AtFirst table = error
+endAt (Among f) table = printed (wordDigits (usedPart f table))
+endAt Ended table = []
 
 unfoldable pub atEnd : Day → List ℕ
 atEnd d = endAt (d .stage) (d .table)

@@ -1,6 +1,7 @@
 -- The frame program of document 01, as definitions.
 pub mod Digits
 pub mod Lines
+pub mod TableLine
 pub mod Rounds
 pub mod Frame
 pub mod Call

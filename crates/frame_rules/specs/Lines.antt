@@ -7,8 +7,11 @@ use lib.ListN.{length, take, drop}
 use lib.Dec.{leb, ltb, eqb}
 use Rattle.rules.specs.declared.Shape.{Shape}
 use Rattle.rules.specs.Lists.{all}
-use Rattle.rules.specs.Shape.{keys}
+use Rattle.rules.specs.Shape.{shapeOf, keys}
 use Rattle.rules.specs.Record.{within}
+use Rattle.frame_rules.specs.declared.First.{First}
+use Rattle.frame_rules.specs.declared.FirstLine.{FirstLine}
+use Rattle.frame_rules.specs.declared.FirstLine.the-variants.{Good, Bad}
 use Rattle.frame_rules.specs.Digits.{isDigit, number}
 
 -- the lines of an input behind a line already begun: each is ended by a line feed (10), the last may lack it
@@ -20,22 +23,31 @@ linesAfter begun (b ∷ input) = cond (eqb b 10) (begun ∷ linesAfter [] input)
 unfoldable pub linesOf : List ℕ → List (List ℕ)
 linesOf input = linesAfter [] input
 
+-- the first line that a call's bare numbers say
+abbrev pub first : ℕ → ℕ → ℕ → First
+first m r n = record { shape = shapeOf m r; tasks = n }
+
 -- the first line: m, r and the number of tasks, two digits each
-pub record First : Type 0 where
-  pub m : ℕ
-  pub r : ℕ
-  pub tasks : ℕ
-
 unfoldable pub firstOf : List ℕ → First
-firstOf line =
-    record { m = number (take 2 line); r = number (take 2 (drop 2 line)); tasks = number (take 2 (drop 4 line)) }
+firstOf line = first (number (take 2 line)) (number (take 2 (drop 2 line))) (number (take 2 (drop 4 line)))
 
--- m 1 to 14, r 1 to 12, 1 to 16 tasks
+-- m 1 to 14, r 1 to 12
+unfoldable pub shapeInLimits : Shape → Bool
+shapeInLimits sh = within 1 14 (sh .m) && within 1 12 (sh .r)
+
+-- 1 to 16 tasks
+unfoldable pub tasksInLimits : ℕ → Bool
+tasksInLimits n = within 1 16 n
+
 unfoldable pub inLimits : First → Bool
-inLimits f = within 1 14 (f .m) && within 1 12 (f .r) && within 1 16 (f .tasks)
+inLimits f = shapeInLimits (f .shape) && tasksInLimits (f .tasks)
 
 unfoldable pub goodFirst : List ℕ → Bool
 goodFirst line = eqb (length line) 6 && all isDigit line && inLimits (firstOf line)
+
+-- a first line as it is read
+unfoldable pub readFirst : List ℕ → FirstLine
+readFirst line = cond (goodFirst line) (Good (firstOf line)) Bad
 
 -- a line's first n keys, eight digits each
 unfoldable pub firstKeys : ℕ → List ℕ → List ℕ

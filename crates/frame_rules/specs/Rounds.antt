@@ -1,17 +1,20 @@
 -- One line's keys run through the tasks in rounds (01, The frame program): who takes a key, who steps, when a key is
 -- answered, and the limit of rounds.
 -- Assumes nothing.
-use Prim.Native.Nat.{ℕ, zero, suc, _+_, _*_, _^_}
+use Prim.Native.Nat.{ℕ, zero, suc, _+_, _*_}
 use mathlib.Core.Bool.{Bool, cond, _&&_}
 use mathlib.Core.List.{List}
 use lib.ListN.{length, getD, set, replicate}
 use lib.Dec.{ltb, eqb}
+use Rattle.rules.specs.declared.Shape.{Shape}
 use Rattle.rules.specs.declared.Task.{Task}
 use Rattle.rules.specs.Lists.{all}
+use Rattle.rules.specs.Shape.{places}
 use Rattle.rules.specs.Record.{atRest}
 use Rattle.rules.specs.Answer.{Leaves, leaves}
 use Rattle.rules.specs.Give.{noTask, taskAt, give}
 use Rattle.rules.specs.Step.{Lent, step}
+use Rattle.frame_rules.specs.declared.First.{First}
 
 -- where a line stands: the table, the tasks, which of the line's keys each task holds (by number, from 0), how many
 -- keys are taken, and the answers in key order (0 where there is none yet)
@@ -35,59 +38,61 @@ start bytes n ks =
 
 -- task i takes the line's next key
 abbrev pub afterTake : Floor → ℕ → Leaves (List Task) → Floor
-afterTake f i (leaves a ts) =
+afterTake p i (leaves a ts) =
     record {
-      table = f .table;
+      table = p .table;
       tasks = ts;
-      serving = set (f .serving) i (f .taken);
-      taken = suc (f .taken);
-      answers = f .answers;
+      serving = set (p .serving) i (p .taken);
+      taken = suc (p .taken);
+      answers = p .answers;
     }
 
 -- task i has made a step; if it is done, its key is answered
 abbrev pub afterStep : Floor → ℕ → Leaves Lent → Floor
-afterStep f i (leaves a l) =
+afterStep p i (leaves a l) =
     record {
       table = l .table;
       tasks = l .tasks;
-      serving = f .serving;
-      taken = f .taken;
+      serving = p .serving;
+      taken = p .taken;
       answers =
           cond
           (eqb (taskAt (l .tasks) i .phase) 13)
-          (set (f .answers) (getD (f .serving) i 0) (taskAt (l .tasks) i .answer))
-          (f .answers);
+          (set (p .answers) (getD (p .serving) i 0) (taskAt (l .tasks) i .answer))
+          (p .answers);
     }
 
 -- an idle or done task takes the next key if there is one, else does nothing; any other task makes one step
-unfoldable pub turn : ℕ → ℕ → List ℕ → ℕ → Floor → Floor
-turn m r ks i f =
+unfoldable pub turn : First → List ℕ → ℕ → Floor → Floor
+turn f ks i p =
     cond
-    (atRest (taskAt (f .tasks) i))
-    (cond (ltb (f .taken) (length ks)) (afterTake f i (give m r (getD ks (f .taken) 0) (f .tasks) i)) f)
-    (afterStep f i (step m r (f .table) (f .tasks) i))
+    (atRest (taskAt (p .tasks) i))
+    (cond (ltb (p .taken) (length ks))
+    (afterTake p i (give (f .shape .m) (f .shape .r) (getD ks (p .taken) 0) (p .tasks) i))
+    p)
+    (afterStep p i (step (f .shape .m) (f .shape .r) (p .table) (p .tasks) i))
 
 -- the turns of n tasks, from task i up
-unfoldable pub turns : ℕ → ℕ → List ℕ → ℕ → ℕ → Floor → Floor
-turns m r ks zero i f = f
-turns m r ks (suc n) i f = turns m r ks n (suc i) (turn m r ks i f)
+unfoldable pub turns : First → List ℕ → ℕ → ℕ → Floor → Floor
+turns f ks zero i p = p
+turns f ks (suc n) i p = turns f ks n (suc i) (turn f ks i p)
 
-unfoldable pub round : ℕ → ℕ → List ℕ → Floor → Floor
-round m r ks f = turns m r ks (length (f .tasks)) 0 f
+unfoldable pub round : First → List ℕ → Floor → Floor
+round f ks p = turns f ks (length (p .tasks)) 0 p
 
 -- all the line's keys are answered: each is taken, and each task that took one is done
 unfoldable pub allAnswered : List ℕ → Floor → Bool
-allAnswered ks f = eqb (f .taken) (length ks) && all atRest (f .tasks)
+allAnswered ks p = eqb (p .taken) (length ks) && all atRest (p .tasks)
 
 -- rounds until then, n at most
-unfoldable pub rounds : ℕ → ℕ → List ℕ → ℕ → Floor → Floor
-rounds m r ks zero f = f
-rounds m r ks (suc n) f = cond (allAnswered ks f) f (rounds m r ks n (round m r ks f))
+unfoldable pub rounds : First → List ℕ → ℕ → Floor → Floor
+rounds f ks zero p = p
+rounds f ks (suc n) p = cond (allAnswered ks p) p (rounds f ks n (round f ks p))
 
 -- how many rounds a line of n keys may take
-unfoldable pub limit : ℕ → ℕ → ℕ
-limit m n = n * (8 * (2 ^ m + 2) + 66)
+unfoldable pub limit : Shape → ℕ → ℕ
+limit sh n = n * (8 * places sh + 66)
 
--- a line's keys run through n tasks
-unfoldable pub play : ℕ → ℕ → ℕ → List ℕ → List ℕ → Floor
-play m r n bytes ks = rounds m r ks (limit m (length ks)) (start bytes n ks)
+-- a line's keys run through the tasks
+unfoldable pub play : First → List ℕ → List ℕ → Floor
+play f bytes ks = rounds f ks (limit (f .shape) (length ks)) (start bytes (f .tasks) ks)

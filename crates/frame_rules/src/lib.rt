@@ -1,21 +1,31 @@
 // Document 01's frame program as definitions, in specs/: digits, lines, rounds, and the whole output of a whole input.
 // Here are the types of its calls; this crate has no function.
 use rules::Refusal;
+use rules::Shape;
 
-// How far a run is: its first line, its frames, or the end.
+// What a first line says: the shape, and the number of tasks.
+pub struct First {
+    pub shape: Shape,
+    pub tasks: u32,
+}
+
+// A first line as it is read.
+pub enum FirstLine {
+    Good(First),
+    Bad,
+}
+
+// How far a run is: its first line, its frames with what the first line said, or the end.
 pub enum Stage {
     AtFirst,
-    Among,
+    Among(First),
     Ended,
 }
 
-// A run between two calls, beside the buffers that are lent: its stage, what its first line said (zeros at the other
-// stages), and how many bytes of the line begun are held. More than 4,096 stands for a line that is too long.
+// A run between two calls, beside the buffers that are lent: its stage, and how many bytes of the line begun are held.
+// More than 4,096 stands for a line that is too long.
 pub struct Run {
     pub stage: Stage,
-    pub m: u32,
-    pub r: u32,
-    pub tasks: u32,
     pub held: usize,
 }
 
