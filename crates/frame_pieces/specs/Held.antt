@@ -12,9 +12,11 @@ use lib.Dec.{leb, eqb}
 use borrow.Author.Tests.{leb-true, leb-false, le-leb, lt-leb, ne-eqb}
 use Rattle.rules.specs.declared.Shape.{Shape}
 use Rattle.rules.specs.Lists.{all}
+use Rattle.frame_rules.specs.declared.Stage.{Stage}
+use Rattle.frame_rules.specs.declared.Stage.the-variants.{AtFirst, Among, Ended}
 use Rattle.frame_rules.specs.Digits.{isDigit}
 use Rattle.frame_rules.specs.Lines.{goodFirst, goodLine}
-use Rattle.frame_rules.specs.Frame.{Stage, atFirst, among, ended, Day, firstLine, frameLine, lineAt, lineIn}
+use Rattle.frame_rules.specs.Frame.{Day, firstLine, frameLine, lineAt, lineIn}
 use Rattle.frame_rules.specs.Feed.{heldAfter, lineAfter, heldLine}
 
 pub data Held (l : List ℕ) (held : ℕ) (line : List ℕ) : Type 0 where
@@ -86,9 +88,9 @@ bad-line sh l h = rw (lt-leb (length l) 4096 h, and-false (all isDigit l && eqb 
 same-at :
     (s : Stage) (table k l : List ℕ) → 4096 < length k → 4096 < length l → lineAt s table k ≡ lineAt s table l
 unfolding firstLine frameLine
-same-at atFirst table k l a b = rw (bad-first k a, bad-first l b)
-same-at (among f) table k l a b = rw (bad-line _ k a, bad-line _ l b)
-same-at ended table k l a b = refl
+same-at AtFirst table k l a b = rw (bad-first k a, bad-first l b)
+same-at (Among f) table k l a b = rw (bad-line _ k a, bad-line _ l b)
+same-at Ended table k l a b = refl
 
 both-long : (d : Day) (k l : List ℕ) → 4096 < length k → 4096 < length l → lineIn d k ≡ lineIn d l
 unfolding lineIn

@@ -24,8 +24,8 @@ use Rattle.rules.specs.Phase.{setChange, setVirgin, marked, mark, freeLeft, fre
 use Rattle.rules.specs.Step.{ofPhase, stepOf, step}
 use Rattle.rules.specs.Give.{given, goodTask, giveTo, give}
 use Rattle.frame_rules.specs.Digits.{isDigit, worth, numberAfter, number, glyph, digitsOf, wordDigits}
-use Rattle.frame_rules.specs.Lines.{linesAfter, linesOf, firstOf, shapeInLimits, tasksInLimits, inLimits, goodFirst}
-use Rattle.frame_rules.specs.Lines.{firstKeys, keysOf, goodLine}
+use Rattle.frame_rules.specs.Lines.{linesAfter, linesOf, firstOf, shapeInLimits, tasksInLimits, inLimits}
+use Rattle.frame_rules.specs.Lines.{goodFirst, firstKeys, keysOf, goodLine}
 use Rattle.frame_rules.specs.TableLine.{goodTableLine, firstWords, tableOfLine, TableRead, tableRead, readTable}
 use Rattle.frame_rules.specs.Rounds.{start, turn, turns, round, allAnswered, rounds, limit, play}
 use Rattle.frame_rules.specs.Frame.{dawn, used, firstLine, playedLine, frameLine, lineIn, atEnd, outputFrom, output}
@@ -100,8 +100,8 @@ unfolding count all any wordOf numberOf isVoid isZero isLock wordsOf bytesOf inR
     fitsBusy fits home lookLeft lookRight lockLeft lockRight backOff readable smaller markOf handOf goalOf
     readEntries read movesOn fillHand neighbour exchange move setChange setVirgin marked mark freeLeft freeRight
     ofPhase stepOf step given goodTask giveTo give isDigit worth numberAfter number glyph digitsOf wordDigits
-    linesAfter linesOf firstOf shapeInLimits tasksInLimits inLimits goodFirst firstKeys keysOf goodLine start turn turns round allAnswered
-    rounds limit play dawn used firstLine playedLine frameLine lineIn atEnd outputFrom output
+    linesAfter linesOf firstOf shapeInLimits tasksInLimits inLimits goodFirst firstKeys keysOf goodLine start turn
+    turns round allAnswered rounds limit play dawn used firstLine playedLine frameLine lineIn atEnd outputFrom output
 rows-hold = refl
 
 -- a table's line, shape 1, 1, read over n bytes of 1; and what a bad line leaves of them
