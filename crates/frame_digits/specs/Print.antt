@@ -48,7 +48,7 @@ one-more text out n a long room =
     rw (drop-cons out n 0 room, set-at text (getD out n 0) (drop (suc n) out) a n long, add-one n)
     (sym (append-snoc text a (drop (suc n) out)))
 
-two-more :
+pub two-more :
     (text out : List ℕ) (n a b : ℕ) →
     length text ≡ n →
     n + 1 < length out →
