@@ -39,10 +39,12 @@ turnsFrom f ks i p = turns f ks (f .tasks - i) i p
 
 module _ (f : First) (ks : List ℕ) (few : f .tasks ≤ 16) where
   pub round-begins : (table answers : List ℕ) (ts : List Task) (hs : List ℕ) (k : ℕ) → length ts ≡ 16 →
-      turnsFrom f ks 0 (floorWith (f .tasks) table answers ts hs k) ≡ round f ks (floorWith (f .tasks) table answers ts hs k)
+      turnsFrom f ks 0 (floorWith (f .tasks) table answers ts hs k)
+      ≡ round f ks (floorWith (f .tasks) table answers ts hs k)
   unfolding round
   round-begins table answers ts hs k size =
-      let whole : f .tasks - 0 ≡ length (take (f .tasks) ts) = omega (arith, length-take-le (f .tasks) ts (omega arith)) in
+      let whole : f .tasks - 0 ≡ length (take (f .tasks) ts) =
+      omega (arith, length-take-le (f .tasks) ts (omega arith)) in
       ap (λ (j : ℕ). turns f ks j 0 (floorWith (f .tasks) table answers ts hs k)) whole
 
   pub turns-end : (i : ℕ) (p : Floor) → f .tasks ≤ i → turnsFrom f ks i p ≡ p
@@ -62,7 +64,10 @@ module _ (f : First) (ks : List ℕ) (few : f .tasks ≤ 16) where
           turn-one f ks i (floorWith (f .tasks) table answers ts hs k) inside
           (omega (arith, length-take-le (f .tasks) ts (omega arith)))
           ∙ rw (getD-take (f .tasks) ts i noTask here, getD-take (f .tasks) hs i 0 here, sym e)
-          (rw (take-set-lt (f .tasks) ts i (x .sitting .task) here, take-set-lt (f .tasks) hs i (x .sitting .serving) here))
+          (rw (
+            take-set-lt (f .tasks) ts i (x .sitting .task) here,
+            take-set-lt (f .tasks) hs i (x .sitting .serving) here,
+          ))
         where
           inside : i < length (take (f .tasks) ts)
           inside = omega (arith, length-take-le (f .tasks) ts (omega arith))

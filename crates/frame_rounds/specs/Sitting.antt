@@ -81,60 +81,63 @@ putBack p i x =
       answers = x .answers;
     }
 
-module _ (f : First) (ks : List ℕ) (i : ℕ) (p : Floor) (here : i < length (p .tasks)) (few : length (p .tasks) ≤ 16) where
-  good : goodTask (p .tasks) i ≡ true
-  unfolding goodTask
-  good = rw (le-leb (length (p .tasks)) 16 few, lt-ltb i (length (p .tasks)) here)
+module _ (f : First) (ks : List ℕ) (i : ℕ) (p : Floor) (here : i < length (p .tasks))
+    (few : length (p .tasks) ≤ 16)
+  where
+    good : goodTask (p .tasks) i ≡ true
+    unfolding goodTask
+    good = rw (le-leb (length (p .tasks)) 16 few, lt-ltb i (length (p .tasks)) here)
 
-  -- a task and a number that stay as they were are put back as they were
-  put-same : p ≡ putBack p i (sat (p .table) (p .answers) (sittingAt p i))
-  put-same = rw (set-getD (p .tasks) i noTask, set-getD (p .serving) i 0)
+    -- a task and a number that stay as they were are put back as they were
+    put-same : p ≡ putBack p i (sat (p .table) (p .answers) (sittingAt p i))
+    put-same = rw (set-getD (p .tasks) i noTask, set-getD (p .serving) i 0)
 
-  took : (x : Leaves Task) →
-      afterTake p i (storedAt (p .tasks) i x)
-      ≡ putBack p i
-      (sat (p .table) (p .answers) (record { task = leftTask x; serving = p .taken; taken = suc (p .taken) }))
-  took (leaves a t) = refl
+    took : (x : Leaves Task) →
+        afterTake p i (storedAt (p .tasks) i x)
+        ≡ putBack p i
+        (sat (p .table) (p .answers) (record { task = leftTask x; serving = p .taken; taken = suc (p .taken) }))
+    took (leaves a t) = refl
 
-  takes : afterTake p i (give (f .shape .m) (f .shape .r) (getD ks (p .taken) 0) (p .tasks) i)
-      ≡ putBack p i
-      (sat (p .table) (p .answers)
-      (record {
-        task = leftTask (giveOne (f .shape .m) (f .shape .r) (getD ks (p .taken) 0) (taskAt (p .tasks) i));
-        serving = p .taken;
-        taken = suc (p .taken);
-      }))
-  takes = ap (afterTake p i) (give-one (f .shape .m) (f .shape .r) (getD ks (p .taken) 0) (p .tasks) i good)
-      ∙ took (giveOne (f .shape .m) (f .shape .r) (getD ks (p .taken) 0) (taskAt (p .tasks) i))
+    takes : afterTake p i (give (f .shape .m) (f .shape .r) (getD ks (p .taken) 0) (p .tasks) i)
+        ≡ putBack p i
+        (sat (p .table) (p .answers)
+        (record {
+          task = leftTask (giveOne (f .shape .m) (f .shape .r) (getD ks (p .taken) 0) (taskAt (p .tasks) i));
+          serving = p .taken;
+          taken = suc (p .taken);
+        }))
+    takes = ap (afterTake p i) (give-one (f .shape .m) (f .shape .r) (getD ks (p .taken) 0) (p .tasks) i good)
+        ∙ took (giveOne (f .shape .m) (f .shape .r) (getD ks (p .taken) 0) (taskAt (p .tasks) i))
 
-  stepped : (x : Leaves Left) →
-      afterStep p i (lentOf (p .tasks) i x) ≡ putBack p i (afterOne (p .answers) (sittingAt p i) x)
-  unfolding answered
-  stepped (leaves a l) = rw (getD-set-same (p .tasks) i (l .task) noTask here, set-getD (p .serving) i 0)
+    stepped : (x : Leaves Left) →
+        afterStep p i (lentOf (p .tasks) i x) ≡ putBack p i (afterOne (p .answers) (sittingAt p i) x)
+    unfolding answered
+    stepped (leaves a l) = rw (getD-set-same (p .tasks) i (l .task) noTask here, set-getD (p .serving) i 0)
 
-  pub turn-one : turn f ks i p ≡ putBack p i (turnOne f ks (p .table) (p .answers) (sittingAt p i))
-  unfolding turn turnOne takeNext makeStep
-  turn-one = go (atRest (taskAt (p .tasks) i)) (ltb (p .taken) (length ks))
-    where
-      go : (rest more : Bool) →
-          cond rest
-          (cond more (afterTake p i (give (f .shape .m) (f .shape .r) (getD ks (p .taken) 0) (p .tasks) i)) p)
-          (afterStep p i (step (f .shape .m) (f .shape .r) (p .table) (p .tasks) i))
-          ≡ putBack p i
-          (cond rest
-          (sat (p .table) (p .answers)
-          (cond more
-          (record {
-            task = leftTask (giveOne (f .shape .m) (f .shape .r) (getD ks (p .taken) 0) (taskAt (p .tasks) i));
-            serving = p .taken;
-            taken = suc (p .taken);
-          })
-          (sittingAt p i)))
-          (afterOne (p .answers) (sittingAt p i) (stepOne (f .shape .m) (f .shape .r) (p .table) (taskAt (p .tasks) i))))
-      go true true = takes
-      go true false = put-same
-      go false more = ap (afterStep p i) (step-one (f .shape .m) (f .shape .r) (p .table) (p .tasks) i good)
-          ∙ stepped (stepOne (f .shape .m) (f .shape .r) (p .table) (taskAt (p .tasks) i))
+    pub turn-one : turn f ks i p ≡ putBack p i (turnOne f ks (p .table) (p .answers) (sittingAt p i))
+    unfolding turn turnOne takeNext makeStep
+    turn-one = go (atRest (taskAt (p .tasks) i)) (ltb (p .taken) (length ks))
+      where
+        go : (rest more : Bool) →
+            cond rest
+            (cond more (afterTake p i (give (f .shape .m) (f .shape .r) (getD ks (p .taken) 0) (p .tasks) i)) p)
+            (afterStep p i (step (f .shape .m) (f .shape .r) (p .table) (p .tasks) i))
+            ≡ putBack p i
+            (cond rest
+            (sat (p .table) (p .answers)
+            (cond more
+            (record {
+              task = leftTask (giveOne (f .shape .m) (f .shape .r) (getD ks (p .taken) 0) (taskAt (p .tasks) i));
+              serving = p .taken;
+              taken = suc (p .taken);
+            })
+            (sittingAt p i)))
+            (afterOne (p .answers) (sittingAt p i)
+            (stepOne (f .shape .m) (f .shape .r) (p .table) (taskAt (p .tasks) i))))
+        go true true = takes
+        go true false = put-same
+        go false more = ap (afterStep p i) (step-one (f .shape .m) (f .shape .r) (p .table) (p .tasks) i good)
+            ∙ stepped (stepOne (f .shape .m) (f .shape .r) (p .table) (taskAt (p .tasks) i))
 
 -- a step's turn, and the record kept of it
 pub after-says :

@@ -9,7 +9,8 @@ use Rattle.frame_rounds.proofs.round.round.Tie as tie
 
 abbrev Inv-loop : tie.InvT-loop
 Inv-loop f table₀ line answers₀ count n tasks₀ holds₀ taken₀ i₀ table answers tasks holds taken i =
-    Turning f (keysOf line) (floorWith (f .tasks) table₀ answers₀ tasks₀ holds₀ taken₀) table answers tasks holds taken i
+    Turning f (keysOf line) (floorWith (f .tasks) table₀ answers₀ tasks₀ holds₀ taken₀) table answers tasks holds
+    taken i
 
 abbrev μ-loop : tie.MeasureT-loop
 μ-loop f table₀ line answers₀ count n tasks₀ holds₀ taken₀ i₀ table answers tasks holds taken i = n - i
