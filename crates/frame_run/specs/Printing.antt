@@ -37,6 +37,11 @@ feed-ends text out out₁ k stands here room =
         ∙ sym (append-assoc text (10 ∷ []) (drop (suc (length text)) out))
         ∙ ap (λ (n : ℕ). printed text ++ drop n out) (sym (add-one (length text)) ∙ sym (length-append text (10 ∷ [])))
 
+-- nothing
+pub none-shown : (out : List ℕ) → shown 0 out ≡ printing [] out
+unfolding atFront
+none-shown out = refl
+
 -- EE
 pub error-shown : (out : List ℕ) → 3 ≤ length out → shown 3 (set (set (set out 0 69) 1 69) 2 10) ≡ printing error out
 unfolding atFront

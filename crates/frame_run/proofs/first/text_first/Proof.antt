@@ -1,42 +1,46 @@
+-- `text_first` meets its contract, by how the line is read.
+-- Assumes nothing.
+use borrow.Author.Needs.{needs}
+use denote.Ref.{now}
+use mathlib.Core.List.{[]}
+use Rattle.frame_rules.specs.declared.Stage.the-variants.{Among}
+use Rattle.frame_run.specs.Printing.{closed-as, none-shown}
+use Rattle.frame_run.specs.First.{read-as}
 use Rattle.frame_run.proofs.first.text_first.Statement.{statement}
 use Rattle.frame_run.proofs.first.text_first.Tie as tie
-use Rattle.frame_run.proofs.first.text_first.Reads as reads
-use Rattle.frame_run.proofs.first.text_first.Lts as lts
-use Rattle.frame_first.proofs.first.read_first.Reads as read-first-reads
-use Rattle.frame_run.proofs.close.run_at.Reads as run-at-reads
-use Rattle.frame_run.proofs.first.bad_first.Reads as bad-first-reads
 
--- src/first.rt:34:9
 read-first-requires : tie.Need-read-first-requires
-read-first-requires c κs = ?
+read-first-requires c κs = search needs
 
--- src/first.rt:36:25
 enum-known-read : tie.Need-enum-known-read
-enum-known-read c = ?
+enum-known-read c = search needs
 
--- src/first.rt:37:18
 run-at-requires : tie.Need-run-at-requires
-run-at-requires c κs = ?
+run-at-requires c κs = search needs
 
--- src/first.rt:40:37
 enum-told : tie.Need-enum-told
-enum-told c = ?
+enum-told c = search needs
 
--- src/first.rt:40:27
 bad-first-requires : tie.Need-bad-first-requires
-bad-first-requires c κs = ?
+bad-first-requires c κs = search needs
 
--- src/first.rt:30:1
 returns : tie.Need-returns
-returns c = ?
+returns c =
+    let told = c .before .before in
+    let read = told .before .before in
+    let start = read .before .before .before in
+    read-as _ _ _ _ (read .read-first .ensures) (told .read .given .1) _
+    (closed-as _ _ [] (now (start .args .out)) _ (Among (told .read .given .0 .0)) [] (c .run-at .ensures)
+    (none-shown (now (start .args .out))))
 
--- src/first.rt:30:1
 same-length : tie.Need-same-length
-same-length c = ?
+same-length c = search needs
 
--- src/first.rt:30:1
 returns-2 : tie.Need-returns-2
-returns-2 c = ?
+returns-2 c =
+    let told = c .before .before .before .before in
+    read-as _ _ _ _ (told .before .before .read-first .ensures) (told .enum-told .given .1) _
+    (c .before .before .bad-first .ensures)
 
 pub text-first-spec : {M : Type 1} → statement M
 text-first-spec =
