@@ -1,7 +1,8 @@
--- The refusals of feed and finish, by the lengths of what is lent; and their tests one by one: those of the shape
--- (`shape-..`), of the tasks (`tasks-..`), and the number that each test gives (`by-..`, `by-none`). Assumes nothing.
+-- The refusals of feed and finish, by the lengths of what is lent; and the number that each test gives (`by-..`), or
+-- none (`by-none`).
+-- Assumes nothing.
 use Prim.Native.Nat.{ℕ, _≤_, _<_}
-use mathlib.Core.Path.{_≡_, refl, sym, ap, _∙_}
+use mathlib.Core.Path.{_≡_, refl, sym, _∙_}
 use mathlib.Core.Bool.{Bool, true, false, cond, _&&_}
 use native.Mathlib.Omega.{arith}
 use lib.ListN.{length}
@@ -11,16 +12,13 @@ use Rattle.rules.specs.declared.Refusal.{Refusal}
 use Rattle.rules.specs.declared.Refusal.the-variants.{BadShape, BadKey, BadTask, Busy, AtRest, Unsound, Locked, Full}
 use Rattle.rules.specs.declared.Refusal.the-variants.{TooFewSlots}
 use Rattle.rules.specs.Answer.{numberOfRefusal}
-use Rattle.rules.specs.Record.{within}
 use Rattle.frame_rules.specs.declared.Run.{Run}
-use Rattle.frame_rules.specs.declared.Stage.{Stage}
-use Rattle.frame_rules.specs.declared.Stage.the-variants.{Among}
-use Rattle.frame_rules.specs.Feed.{Buffers, ifAmong, refusal}
+use Rattle.frame_rules.specs.Feed.{Buffers, goodShapeAt, goodTasksAt, refusal}
 
 unfoldable pub refusalBy : Run → ℕ → ℕ → ℕ → ℕ
 refusalBy run line table out =
-    cond (ifAmong (run .stage) (within 1 14 (run .m) && within 1 12 (run .r)) && eqb table 32772)
-    (cond (ifAmong (run .stage) (within 1 16 (run .tasks)))
+    cond (goodShapeAt (run .stage) && eqb table 32772)
+    (cond (goodTasksAt (run .stage))
     (cond (leb 4096 line && leb 66570 out) 0 9)
     3)
     1
@@ -30,46 +28,9 @@ pub refusal-by :
 unfolding refusalBy refusal
 refusal-by run b = refl
 
--- ---- among frames: m 1 to 14, r 1 to 12, 1 to 16 tasks
-asked : (s : Stage) → s ≡ Among → (b a : Bool) → b ≡ a → b ≡ ifAmong s a
-asked s among b a e = e ∙ ap (λ (x : Stage). ifAmong x a) (sym among)
-
-module _ (s : Stage) (m r : ℕ) (among : s ≡ Among) where
-  abbrev both : Bool
-  both = within 1 14 m && within 1 12 r
-
-  pub shape-in : 1 ≤ m → m < 15 → 1 ≤ r → r < 13 → true ≡ ifAmong s both
-  shape-in a b c d =
-      asked s among true both
-      (rw (le-leb 1 m a, le-leb m 14 (omega arith), le-leb 1 r c, le-leb r 12 (omega arith)))
-
-  pub shape-low-r : 1 ≤ m → m < 15 → r < 1 → false ≡ ifAmong s both
-  shape-low-r a b c = asked s among false both (rw (le-leb 1 m a, le-leb m 14 (omega arith), lt-leb 1 r c))
-
-  pub shape-high-r : 1 ≤ m → m < 15 → 1 ≤ r → 13 ≤ r → false ≡ ifAmong s both
-  shape-high-r a b c d =
-      asked s among false both
-      (rw (le-leb 1 m a, le-leb m 14 (omega arith), le-leb 1 r c, lt-leb r 12 (omega arith)))
-
-  pub shape-low-m : m < 1 → false ≡ ifAmong s both
-  shape-low-m a = asked s among false both (rw (lt-leb 1 m a))
-
-  pub shape-high-m : 1 ≤ m → 15 ≤ m → false ≡ ifAmong s both
-  shape-high-m a b = asked s among false both (rw (le-leb 1 m a, lt-leb m 14 (omega arith)))
-
-module _ (s : Stage) (n : ℕ) (among : s ≡ Among) where
-  pub tasks-in : 1 ≤ n → n < 17 → true ≡ ifAmong s (within 1 16 n)
-  tasks-in a b = asked s among true (within 1 16 n) (rw (le-leb 1 n a, le-leb n 16 (omega arith)))
-
-  pub tasks-low : n < 1 → false ≡ ifAmong s (within 1 16 n)
-  tasks-low a = asked s among false (within 1 16 n) (rw (lt-leb 1 n a))
-
-  pub tasks-high : 1 ≤ n → 17 ≤ n → false ≡ ifAmong s (within 1 16 n)
-  tasks-high a b = asked s among false (within 1 16 n) (rw (le-leb 1 n a, lt-leb n 16 (omega arith)))
-
 -- ---- the first test that fails gives the number
 module _ (run : Run) (line table out : ℕ) (shape : Bool)
-    (shape-is : shape ≡ ifAmong (run .stage) (within 1 14 (run .m) && within 1 12 (run .r)))
+    (shape-is : shape ≡ goodShapeAt (run .stage))
   where
     pub by-shape : shape ≡ false → 1 ≡ refusalBy run line table out
     unfolding refusalBy
@@ -79,7 +40,7 @@ module _ (run : Run) (line table out : ℕ) (shape : Bool)
     unfolding refusalBy
     by-table a b = rw (sym shape-is ∙ a, ne-eqb table 32772 b)
 
-    module _ (tasks : Bool) (tasks-is : tasks ≡ ifAmong (run .stage) (within 1 16 (run .tasks))) where
+    module _ (tasks : Bool) (tasks-is : tasks ≡ goodTasksAt (run .stage)) where
       pub by-tasks : shape ≡ true → table ≡ 32772 → tasks ≡ false → 3 ≡ refusalBy run line table out
       unfolding refusalBy
       by-tasks a b c = rw (sym shape-is ∙ a, eq-eqb table 32772 b, sym tasks-is ∙ c)

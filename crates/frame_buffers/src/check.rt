@@ -1,49 +1,35 @@
 // Whether a call on a run can be carried out (the order of the paper's numbers): 1 by shape and table, 3 by the tasks,
 // 9 where a line or what is printed could not be held.
+use frame_first::first::shape_in_limits;
+use frame_first::first::tasks_in_limits;
 use frame_rules::Run;
 use frame_rules::Stage;
 use rules::Done;
 use rules::Refusal;
 ghost use mathlib.Core.Path.{_≡_};
-ghost use mathlib.Core.Bool.{_&&_};
-ghost use Rattle.rules.specs.Record.{within};
 ghost use Rattle.rules.specs.Answer.{doneSays};
-ghost use Rattle.frame_rules.specs.Feed.{ifAmong};
+ghost use Rattle.frame_rules.specs.Feed.{goodShapeAt, goodTasksAt};
 ghost use Rattle.frame_buffers.specs.Check.{refusalBy};
 
-// Among frames, m is 1 to 14 and r 1 to 12.
-fn shape_fine(run: Run) -> bool
-    ensures { λ b. ⌜ b ≡ ifAmong (run .stage) (within 1 14 (run .m) && within 1 12 (run .r)) ⌝ }
+// Among frames, the shape is within the first line's limits.
+fn shape_fine(stage: Stage) -> bool
+    ensures { λ b. ⌜ b ≡ goodShapeAt stage ⌝ }
 {
-    let stage = run.stage;
-    let m = run.m;
-    let r = run.r;
     match stage {
         Stage::AtFirst => true,
+        Stage::Among(f) => shape_in_limits(f.shape),
         Stage::Ended => true,
-        Stage::Among => match m {
-            1..=14 => match r {
-                1..=12 => true,
-                _ => false,
-            },
-            _ => false,
-        },
     }
 }
 
-// Among frames, there are 1 to 16 tasks.
-fn tasks_fine(run: Run) -> bool
-    ensures { λ b. ⌜ b ≡ ifAmong (run .stage) (within 1 16 (run .tasks)) ⌝ }
+// And so is the number of tasks.
+fn tasks_fine(stage: Stage) -> bool
+    ensures { λ b. ⌜ b ≡ goodTasksAt stage ⌝ }
 {
-    let stage = run.stage;
-    let tasks = run.tasks;
     match stage {
         Stage::AtFirst => true,
+        Stage::Among(f) => tasks_in_limits(f.tasks),
         Stage::Ended => true,
-        Stage::Among => match tasks {
-            1..=16 => true,
-            _ => false,
-        },
     }
 }
 
@@ -51,9 +37,10 @@ fn tasks_fine(run: Run) -> bool
 pub fn check(run: Run, line: usize, table: usize, out: usize) -> Done
     ensures { λ d. ⌜ doneSays d .number ≡ refusalBy run line table out ⌝ }
 {
-    if shape_fine(run) {
+    let stage = run.stage;
+    if shape_fine(stage) {
         if table == 32772 {
-            if tasks_fine(run) {
+            if tasks_fine(stage) {
                 if 4096 <= line {
                     if 66570 <= out {
                         return Done::Accepted;

@@ -9,6 +9,7 @@ use native.Mathlib.Omega.{arith}
 use borrow.Author.Tests.{le-leb, lt-leb}
 use lib.ListN.{length, getD, set, take, drop, length-append, length-set}
 use lib.Seq.{take-suc, take-all, drop-cons, append-snoc, set-at, length-take-le}
+use Rattle.rules.specs.Lists.{atFront}
 use Rattle.frame_rules.specs.Digits.{glyph, digitsOf, wordDigits}
 
 -- ---- a digit
@@ -47,7 +48,7 @@ one-more text out n a long room =
     rw (drop-cons out n 0 room, set-at text (getD out n 0) (drop (suc n) out) a n long, add-one n)
     (sym (append-snoc text a (drop (suc n) out)))
 
-two-more :
+pub two-more :
     (text out : List ℕ) (n a b : ℕ) →
     length text ≡ n →
     n + 1 < length out →
@@ -107,7 +108,8 @@ module _ (bytes out₀ : List ℕ) (room : 2 * length bytes ≤ length out₀) w
         places : 2 * i + 2 ≡ 2 * (i + 1)
         places = omega arith
 
-    pub printing-ends : length bytes ≤ i → out ≡ digitsOf bytes ++ drop (length (digitsOf bytes)) out₀
+    pub printing-ends : length bytes ≤ i → out ≡ atFront (digitsOf bytes) out₀
+    unfolding atFront
     printing-ends done =
         let all-bytes : i ≡ length bytes = omega (arith, p .reached) in
         p .printed
@@ -215,7 +217,8 @@ module _ (bytes out₀ : List ℕ) (room : 2 * length bytes ≤ length out₀) w
         places : 4 * i + 2 + 2 ≡ 4 * (i + 1)
         places = omega arith
 
-    pub wording-ends : length bytes / 2 ≤ i → out ≡ wordDigits bytes ++ drop (length (wordDigits bytes)) out₀
+    pub wording-ends : length bytes / 2 ≤ i → out ≡ atFront (wordDigits bytes) out₀
+    unfolding atFront
     wording-ends done =
         let all-words : i ≡ length bytes / 2 = omega (arith, p .reached) in
         p .printed

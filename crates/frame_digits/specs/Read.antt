@@ -1,5 +1,5 @@
 -- Digits read. `digitOr`: what a byte is worth as a digit, with a law for each range of the code; `Reading`:
--- the invariant of a number read digit by digit, with its laws.
+-- the invariant of a number read digit by digit, with its laws; `number-low`: how large a number is.
 -- Assumes nothing.
 use Prim.Native.Nat.{ℕ, _+_, _*_, _-_, _^_, _≤_, _<_}
 use mathlib.Core.Path.{_≡_, refl, _∙_}
@@ -180,3 +180,22 @@ module _ (s : List ℕ) (at n : ℕ)
               left =
                   rw (worth-is, ← digit-here, add-one j)
                   (rw (drop-cons part j 0 (omega (arith, part-length))) at (r .left))
+
+    -- ---- n digits write a number below 16^n
+    record SoFar (j : ℕ) : Type 0 where
+      pub says : ℕ
+      pub reading : Reading part n says j
+
+    so-far : (j : ℕ) → j ≤ n → SoFar j
+    so-far zero h = record { says = 0; reading = reading-begins }
+    so-far (suc j) h =
+        let r = so-far j (omega arith) in
+        record {
+          says = 16 * r .says + digitOr (getD s (at + j) 0);
+          reading = rw (← add-one j) (reading-on (r .reading) (omega arith) (digitOr (getD s (at + j) 0)) refl);
+        }
+
+    pub number-low : number part < 16 ^ n
+    number-low =
+        let r = so-far n (omega arith) in
+        rw (← reading-ends (r .reading) (omega arith)) (r .reading .fits)

@@ -1,9 +1,9 @@
 // Digits printed into lent bytes, capitals only: a byte as two digits, bytes, and the words of a table.
 // What is printed stands at the front; what is behind it stays.
 ghost use mathlib.Core.Path.{_≡_};
-ghost use mathlib.Core.List.{_++_};
 ghost use Prim.Native.Nat.{_+_, _*_, _/_, _%_, _≤_, _<_};
-ghost use lib.ListN.{length, set, drop};
+ghost use lib.ListN.{length, set};
+ghost use Rattle.rules.specs.Lists.{atFront};
 ghost use Rattle.frame_rules.specs.Digits.{digitsOf, wordDigits};
 ghost use Rattle.frame_rules.specs.Digits as digits;
 
@@ -31,8 +31,7 @@ pub fn put_byte(out: &mut [u8], at: usize, b: u8)
 // Bytes of two digits each.
 pub fn put_bytes(bytes: &[u8], out: &mut [u8])
     requires { ⌜ 2 * length (now bytes) ≤ length (now out) ⌝ }
-    ensures { λ _. ⌜ now (out .exit)
-        ≡ digitsOf (now (bytes .entry)) ++ drop (length (digitsOf (now (bytes .entry)))) (now (out .entry)) ⌝ }
+    ensures { λ _. ⌜ now (out .exit) ≡ atFront (digitsOf (now (bytes .entry))) (now (out .entry)) ⌝ }
 {
     let mut i = 0;
     while i < bytes.len() {
@@ -44,8 +43,7 @@ pub fn put_bytes(bytes: &[u8], out: &mut [u8])
 // The words of a table, four digits each: in the table a word's low byte comes first.
 pub fn put_words(table: &[u8], out: &mut [u8])
     requires { ⌜ 2 * length (now table) ≤ length (now out) ⌝ }
-    ensures { λ _. ⌜ now (out .exit)
-        ≡ wordDigits (now (table .entry)) ++ drop (length (wordDigits (now (table .entry)))) (now (out .entry)) ⌝ }
+    ensures { λ _. ⌜ now (out .exit) ≡ atFront (wordDigits (now (table .entry))) (now (out .entry)) ⌝ }
 {
     let mut i = 0;
     while i < table.len() / 2 {

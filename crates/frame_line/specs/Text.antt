@@ -11,13 +11,14 @@ use lib.Dec.{ltb, leb, eqb}
 use borrow.Author.Tests.{le-leb, lt-leb, eq-eqb, ne-eqb, leb-true}
 use Rattle.rules.specs.declared.Shape.{Shape}
 use Rattle.rules.specs.Lists.{all}
-use Rattle.rules.specs.Shape.{shapeOf, keys, goodTable}
+use Rattle.rules.specs.Shape.{keys, goodTable}
 use Rattle.frame_rules.specs.Digits.{isDigit}
-use Rattle.frame_rules.specs.Lines.{keysOf, goodLine}
+use Rattle.frame_rules.specs.declared.First.{First}
+use Rattle.frame_rules.specs.Lines.{tasksInLimits, keysOf, goodLine}
 use Rattle.frame_rules.specs.Rounds.{play}
 use Rattle.frame_rules.specs.Call.{Line, answered, ended, refused, passedOver, leftAlone, played, line}
 use Rattle.table_words.specs.Range.{InRange, good-table}
-use Rattle.frame_pieces.specs.Limits.{keys-count}
+use Rattle.frame_pieces.specs.Limits.{between, keys-count}
 use Rattle.frame_line.specs.Play.{Ran, ran, ranOf, lineKeys}
 
 module _ (sh : Shape) (text : List ℕ) (d : Bool) (asked : d ≡ all isDigit text) where
@@ -71,7 +72,7 @@ module _ (sh : Shape) (text : List ℕ) (good : goodLine sh text ≡ true) where
   part-few slots room = omega (arith, part-keys slots room, keys-count text, parts .1)
 
 -- ---- a good line's call, by how its rounds end
-module _ (m r n : ℕ) (table text slots : List ℕ) (room : length text / 8 ≤ length slots) where
+module _ (f : First) (table text slots : List ℕ) (room : length text / 8 ≤ length slots) where
   enough : leb (length (keysOf text)) (length slots) ≡ true
   enough = le-leb (length (keysOf text)) (length slots) (omega (arith, keys-count text))
 
@@ -89,16 +90,16 @@ module _ (m r n : ℕ) (table text slots : List ℕ) (room : length text / 8 ≤
       }
 
   module _ (b : Bool) (after answers : List ℕ)
-      (e : ran b after answers ≡ ranOf (keysOf text) (play m r n table (keysOf text)))
+      (e : ran b after answers ≡ ranOf (keysOf text) (play f table (keysOf text)))
     where
-      whole : ran-line (keysOf text) (ran b after answers) ≡ lineKeys m r n table (keysOf text) slots
+      whole : ran-line (keysOf text) (ran b after answers) ≡ lineKeys f table (keysOf text) slots
       unfolding lineKeys played
       whole = ap (ran-line (keysOf text)) e ∙ rw enough
 
       pub keys-answered :
           b ≡ true →
           leftAlone (answered (length text / 8)) after (answers ++ drop (length text / 8 - 0) slots)
-          ≡ lineKeys m r n table (keysOf text) slots
+          ≡ lineKeys f table (keysOf text) slots
       keys-answered done =
           rw (left-over, sym (keys-count text))
           (ap (λ (x : Bool). ran-line (keysOf text) (ran x after answers)) (sym done) ∙ whole)
@@ -106,46 +107,41 @@ module _ (m r n : ℕ) (table text slots : List ℕ) (room : length text / 8 ≤
       pub keys-ended :
           b ≡ false →
           leftAlone ended after (answers ++ drop (length text / 8 - 0) slots)
-          ≡ lineKeys m r n table (keysOf text) slots
+          ≡ lineKeys f table (keysOf text) slots
       keys-ended not-done =
           rw left-over (ap (λ (x : Bool). ran-line (keysOf text) (ran x after answers)) (sym not-done) ∙ whole)
 
 pub keys-refused :
-    (m r n : ℕ) (table text slots : List ℕ) → length slots < length text / 8 →
-    leftAlone (refused 9) table slots ≡ lineKeys m r n table (keysOf text) slots
+    (f : First) (table text slots : List ℕ) → length slots < length text / 8 →
+    leftAlone (refused 9) table slots ≡ lineKeys f table (keysOf text) slots
 unfolding lineKeys
-keys-refused m r n table text slots few =
+keys-refused f table text slots few =
     rw (lt-leb (length (keysOf text)) (length slots) (omega (arith, keys-count text)))
 
 -- ---- the call by its tests
-pub range-good :
-    (m r size : ℕ) (t : Bool) → t ≡ goodTable (shapeOf m r) size → t ≡ true → InRange (shapeOf m r)
-range-good m r size t asked e = good-table (shapeOf m r) size (sym asked ∙ e) .0
+pub range-good : (sh : Shape) (size : ℕ) (t : Bool) → t ≡ goodTable sh size → t ≡ true → InRange sh
+range-good sh size t asked e = good-table sh size (sym asked ∙ e) .0
 
-module _ (m r n : ℕ) (table text slots : List ℕ) (t : Bool) (asked : t ≡ goodTable (shapeOf m r) (length table)) where
-  pub line-bad-shape : t ≡ false → leftAlone (refused 1) table slots ≡ line m r n table text slots
+pub few-tasks : (n : ℕ) (b : Bool) → b ≡ tasksInLimits n → b ≡ true → n ≤ 16
+unfolding tasksInLimits
+few-tasks n b asked e = between 1 16 n (sym asked ∙ e) .most
+
+module _ (f : First) (table text slots : List ℕ) (t : Bool) (asked : t ≡ goodTable (f .shape) (length table)) where
+  pub line-bad-shape : t ≡ false → leftAlone (refused 1) table slots ≡ line f table text slots
   unfolding line
   line-bad-shape e = rw (sym asked ∙ e)
 
-  module _ (fine : t ≡ true) where
-    pub line-none : n < 1 → leftAlone (refused 3) table slots ≡ line m r n table text slots
+  module _ (fine : t ≡ true) (n : Bool) (counted : n ≡ tasksInLimits (f .tasks)) where
+    pub line-bad-tasks : n ≡ false → leftAlone (refused 3) table slots ≡ line f table text slots
     unfolding line
-    line-none none = rw (sym asked ∙ fine, lt-leb 1 n none)
+    line-bad-tasks e = rw (sym asked ∙ fine, sym counted ∙ e)
 
-    pub line-many : 16 < n → leftAlone (refused 3) table slots ≡ line m r n table text slots
-    unfolding line
-    line-many many = rw (sym asked ∙ fine, le-leb 1 n (omega arith), lt-leb n 16 many)
+    module _ (few : n ≡ true) (g : Bool) (tested : g ≡ goodLine (f .shape) text) where
+      pub line-good :
+          g ≡ true → (x : Line) → x ≡ lineKeys f table (keysOf text) slots → x ≡ line f table text slots
+      unfolding line lineKeys
+      line-good e x is = rw (sym asked ∙ fine, sym counted ∙ few, sym tested ∙ e) is
 
-    module _ (some : 1 ≤ n) (few : n ≤ 16) (sh : Shape) (shape : sh ≡ shapeOf m r) (g : Bool)
-        (tested : g ≡ goodLine sh text)
-      where
-        as-shape : goodLine (shapeOf m r) text ≡ g
-        as-shape = ap (λ (s : Shape). goodLine s text) (sym shape) ∙ sym tested
-
-        pub line-good : g ≡ true → lineKeys m r n table (keysOf text) slots ≡ line m r n table text slots
-        unfolding line lineKeys
-        line-good e = rw (sym asked ∙ fine, le-leb 1 n some, le-leb n 16 few) (rw (as-shape ∙ e))
-
-        pub line-passed : g ≡ false → leftAlone passedOver table slots ≡ line m r n table text slots
-        unfolding line
-        line-passed e = rw (sym asked ∙ fine, le-leb 1 n some, le-leb n 16 few) (rw (as-shape ∙ e))
+      pub line-passed : g ≡ false → leftAlone passedOver table slots ≡ line f table text slots
+      unfolding line
+      line-passed e = rw (sym asked ∙ fine, sym counted ∙ few, sym tested ∙ e)

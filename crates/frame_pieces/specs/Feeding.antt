@@ -10,16 +10,16 @@ use lib.ListN.{length, take, drop, length-append, length-drop}
 use lib.Seq.{length-take-le, take-append-seam}
 use lib.Dec.{leb, ltb, eqb}
 use borrow.Author.Tests.{ltb-true, ltb-false, leb-true, le-leb, eqb-true, eq-eqb, ne-eqb}
-use Rattle.rules.specs.Record.{within}
+use Rattle.rules.specs.Lists.{atFront}
 use Rattle.frame_rules.specs.declared.Run.{Run}
 use Rattle.frame_rules.specs.declared.Stage.{Stage}
 use Rattle.frame_rules.specs.declared.Stage.the-variants.{AtFirst, Among, Ended}
-use Rattle.frame_rules.specs.Lines.{First, inLimits}
+use Rattle.frame_rules.specs.Lines.{inLimits, shapeInLimits, tasksInLimits}
 use Rattle.frame_rules.specs.Frame as frame
-use Rattle.frame_rules.specs.Frame.{atFirst, among, ended, Day, After, lineIn, atEnd}
-use Rattle.frame_rules.specs.Feed.{Buffers, lentBuffers, firstIn, stageOf, dayOf, runOf, withHeld, ifAmong, refusal}
-use Rattle.frame_rules.specs.Feed.{lineLength, heldAfter, lineAfter, heldLine, atFront, Feeding, feeds, heldOrClosed}
-use Rattle.frame_rules.specs.Feed.{feedGood, feed, finishes, lastLine, finishGood, finish}
+use Rattle.frame_rules.specs.Frame.{Day, After, lineIn, atEnd}
+use Rattle.frame_rules.specs.Feed.{Buffers, lentBuffers, dayOf, runOf, withHeld, refusal, lineLength, heldAfter}
+use Rattle.frame_rules.specs.Feed.{lineAfter, heldLine, atFront, Feeding, feeds, heldOrClosed, feedGood, feed, finishes}
+use Rattle.frame_rules.specs.Feed.{lastLine, finishGood, finish, goodShapeAt, goodTasksAt}
 use Rattle.frame_pieces.specs.Limits.{inStage, Fit, line-fits, line-prints, end-prints}
 use Rattle.frame_pieces.specs.Reading.{fromHere, line-length-le, goes-on, line-ends, nothing-left, rest-is-line}
 use Rattle.frame_pieces.specs.Held.{Held, whole, tooLong, none-held, line-length, held-more, held-line}
@@ -39,32 +39,32 @@ pub record Stands (l : List ℕ) (run : Run) (b : Buffers) : Type 0 where
   pub held : Held l (run .held) (b .line)
 
 -- ---- no refusal
-record Tests (s : Stage) (f : First) : Type 0 where
-  shape : ifAmong s (within 1 14 (f .m) && within 1 12 (f .r)) ≡ true
-  tasks : ifAmong s (within 1 16 (f .tasks)) ≡ true
+record Tests (s : Stage) : Type 0 where
+  shape : goodShapeAt s ≡ true
+  tasks : goodTasksAt s ≡ true
 
-tests : (s : Stage) (f : First) → inStage (stageOf s f) → Tests s f
+tests : (s : Stage) → inStage s → Tests s
 unfolding inLimits
-tests AtFirst f i = record { shape = refl; tasks = refl }
-tests Among f i =
-    let both = and-eq-true-iff (within 1 14 (f .m) && within 1 12 (f .r)) (within 1 16 (f .tasks)) .0 i in
+tests AtFirst i = record { shape = refl; tasks = refl }
+tests (Among f) i =
+    let both = and-eq-true-iff (shapeInLimits (f .shape)) (tasksInLimits (f .tasks)) .0 i in
     record { shape = both .0; tasks = both .1 }
-tests Ended f i = record { shape = refl; tasks = refl }
+tests Ended i = record { shape = refl; tasks = refl }
 
 -- nothing is refused where all is ready, and only there
 pub not-refused : (run : Run) (b : Buffers) → InOrder run b → refusal run b ≡ 0
-unfolding refusal dayOf
+unfolding refusal
 not-refused run b ok =
-    let t = tests (run .stage) (firstIn run) (ok .day .stage) in
+    let t = tests (run .stage) (ok .day .stage) in
     rw (t .shape, eq-eqb (length (b .table)) 32772 (ok .day .table), t .tasks)
     (rw (le-leb 4096 (length (b .line)) (ok .line), le-leb 66570 (length (b .out)) (ok .out)))
 
-in-stage : (s : Stage) (f : First) → Tests s f → inStage (stageOf s f)
+in-stage : (s : Stage) → Tests s → inStage s
 unfolding inLimits
-in-stage AtFirst f t = tt
-in-stage Among f t =
-    and-eq-true-iff (within 1 14 (f .m) && within 1 12 (f .r)) (within 1 16 (f .tasks)) .1 (t .shape, t .tasks)
-in-stage Ended f t = tt
+in-stage AtFirst t = tt
+in-stage (Among f) t =
+    and-eq-true-iff (shapeInLimits (f .shape)) (tasksInLimits (f .tasks)) .1 (t .shape, t .tasks)
+in-stage Ended t = tt
 
 record Passed (one three nine : Bool) : Type 0 where
   one-passed : one ≡ true
@@ -79,20 +79,19 @@ passed true false nine e = absurd (omega arith)
 passed false three nine e = absurd (omega arith)
 
 pub accepted : (run : Run) (b : Buffers) → refusal run b ≡ 0 → InOrder run b
-unfolding refusal dayOf
+unfolding refusal
 accepted run b e =
-    let shape = ifAmong (run .stage) (within 1 14 (run .m) && within 1 12 (run .r)) in
     let p = passed
-    (shape && eqb (length (b .table)) 32772)
-    (ifAmong (run .stage) (within 1 16 (run .tasks)))
+    (goodShapeAt (run .stage) && eqb (length (b .table)) 32772)
+    (goodTasksAt (run .stage))
     (leb 4096 (length (b .line)) && leb 66570 (length (b .out)))
     e in
-    let (fits, table) = and-eq-true-iff shape (eqb (length (b .table)) 32772) .0 (p .one-passed) in
+    let (fits, table) = and-eq-true-iff (goodShapeAt (run .stage)) (eqb (length (b .table)) 32772) .0 (p .one-passed) in
     let (line, out) =
     and-eq-true-iff (leb 4096 (length (b .line))) (leb 66570 (length (b .out))) .0 (p .nine-passed) in
     record {
       day = record {
-        stage = in-stage (run .stage) (firstIn run) (record { shape = fits; tasks = p .three-passed });
+        stage = in-stage (run .stage) (record { shape = fits; tasks = p .three-passed });
         table = eqb-true (length (b .table)) 32772 table;
       };
       line = leb-true 4096 (length (b .line)) line;
@@ -117,22 +116,8 @@ pub record Fed (l : List ℕ) (run : Run) (rest : List ℕ) (at : ℕ) (b : Buff
       (more : List ℕ) →
       fromHere (today run b) l (take eaten rest ++ more) ≡ take wrote (b′ .out) ++ fromHere (today run′ b′) l′ more
 
--- the run of a stage holds nothing, and its day is of that stage
-run-held : (s : frame.Stage) → runOf s .held ≡ 0
-run-held atFirst = refl
-run-held (among f) = refl
-run-held ended = refl
-
-pub run-day : (d : Day) → dayOf (runOf (d .stage)) (d .table) ≡ d
-unfolding dayOf
-run-day d = go (d .stage) (d .table)
-  where
-    go : (s : frame.Stage) (table : List ℕ) → dayOf (runOf s) table ≡ record { stage = s; table = table }
-    go atFirst table = refl
-    go (among f) table = refl
-    go ended table = refl
-
 room-kept : (text out : List ℕ) → length out ≤ length (atFront text out)
+unfolding atFront
 room-kept text out =
     let a = length-append text (drop (length text) out) in
     let b = length-drop (length text) out in
@@ -167,23 +152,21 @@ module _ (l : List ℕ) (run : Run) (rest : List ℕ) (at : ℕ) (b : Buffers) (
   abbrev closed : Buffers
   closed = lentBuffers line (made .day .table) (atFront (made .prints) (b .out))
 
-  next-day : today (runOf (made .day .stage)) closed ≡ made .day
-  next-day = run-day (made .day)
-
   closed-stands : Stands [] (runOf (made .day .stage)) closed
   closed-stands =
       let fit = line-fits (today run b) (heldLine held line) (s .ready .day) in
       let kept = room-kept (made .prints) (b .out) in
       let out = s .ready .out in
       record {
-        ready = record { day = rw next-day fit; line = room; out = omega arith };
-        held = subst (λ (n : ℕ). Held [] n line) (sym (run-held (made .day .stage))) (none-held line);
+        ready = record { day = fit; line = room; out = omega arith };
+        held = none-held line;
       }
 
   closed-prints :
       lineLength rest < length rest → (more : List ℕ) →
       fromHere (today run b) l (take (suc (lineLength rest)) rest ++ more)
       ≡ take (length (made .prints)) (closed .out) ++ fromHere (today (runOf (made .day .stage)) closed) [] more
+  unfolding atFront
   closed-prints h more =
       line-ends (today run b) l rest more h
       ∙ ap
@@ -192,9 +175,6 @@ module _ (l : List ℕ) (run : Run) (rest : List ℕ) (at : ℕ) (b : Buffers) (
       ∙ ap
       (λ (text : List ℕ). text ++ fromHere (made .day) [] more)
       (sym (take-append-seam (made .prints) (drop (length (made .prints)) (b .out))))
-      ∙ ap
-      (λ (d : Day). take (length (made .prints)) (closed .out) ++ fromHere d [] more)
-      (sym next-day)
 
   met :
       lineLength rest < length rest →
@@ -219,7 +199,7 @@ module _ (l : List ℕ) (run : Run) (rest : List ℕ) (at : ℕ) (b : Buffers) (
   unmet :
       length rest ≤ lineLength rest →
       Fed l run rest at b (heldOrClosed run (at + lineLength rest) held false (lentBuffers line (b .table) (b .out)))
-  unfolding heldOrClosed dayOf
+  unfolding heldOrClosed
   unmet h =
       record {
         run′ = withHeld run held;
@@ -315,7 +295,7 @@ last-prints (c ∷ cs) run b h =
     (rest-is-line (today run b) c cs)
 
 pub finish-prints : (l : List ℕ) (run : Run) (b : Buffers) → Stands l run b → Done l run b
-unfolding finish finishGood
+unfolding finish finishGood atFront
 finish-prints l run b s =
     let a = lastLine run b in
     let text = a .prints ++ atEnd (a .day) in

@@ -1,5 +1,6 @@
 -- How the buffer holds a line begun: its bytes, or only that it is too long (`Held`). More bytes are held behind it
--- (`held-more`), and the held line gives what the line itself gives (`held-line`), for a line too long is always bad.
+-- (`held-more`), and the held line (`held-whole`, `held-long`) gives what the line itself gives (`held-line`), for a
+-- line too long is always bad.
 -- Assumes nothing.
 use Prim.Native.Nat.{ℕ, _+_, _%_, _≤_, _<_}
 use mathlib.Core.Path.{_≡_, refl, ap, _∙_}
@@ -12,9 +13,11 @@ use lib.Dec.{leb, eqb}
 use borrow.Author.Tests.{leb-true, leb-false, le-leb, lt-leb, ne-eqb}
 use Rattle.rules.specs.declared.Shape.{Shape}
 use Rattle.rules.specs.Lists.{all}
+use Rattle.frame_rules.specs.declared.Stage.{Stage}
+use Rattle.frame_rules.specs.declared.Stage.the-variants.{AtFirst, Among, Ended}
 use Rattle.frame_rules.specs.Digits.{isDigit}
 use Rattle.frame_rules.specs.Lines.{goodFirst, goodLine}
-use Rattle.frame_rules.specs.Frame.{Stage, atFirst, among, ended, Day, firstLine, frameLine, lineAt, lineIn}
+use Rattle.frame_rules.specs.Frame.{Day, firstLine, frameLine, lineAt, lineIn}
 use Rattle.frame_rules.specs.Feed.{heldAfter, lineAfter, heldLine}
 
 pub data Held (l : List ℕ) (held : ℕ) (line : List ℕ) : Type 0 where
@@ -74,8 +77,20 @@ module _ (line : List ℕ) (held : ℕ) (more : List ℕ) where
       let e : leb (held + length more) 4096 ≡ false = lt-leb (held + length more) 4096 (omega arith) in
       rw e (tooLong (omega arith) (omega arith))
 
+-- ---- the held line: whole, or longer than any good one
+module _ (held : ℕ) (line : List ℕ) where
+  pub held-whole : held ≤ 4096 → heldLine held line ≡ take held line
+  unfolding heldLine
+  held-whole short = rw (le-leb held 4096 short)
+
+  pub held-long : 4096 < held → 4096 < length (heldLine held line)
+  unfolding heldLine
+  held-long long =
+      let n = length-replicate {A = ℕ} 4097 0 in
+      rw (lt-leb held 4096 long) (omega arith)
+
 -- ---- a line too long is bad, whatever it holds
-bad-first : (l : List ℕ) → 4096 < length l → goodFirst l ≡ false
+pub bad-first : (l : List ℕ) → 4096 < length l → goodFirst l ≡ false
 unfolding goodFirst
 bad-first l h = rw (ne-eqb (length l) 6 (λ e. omega arith))
 
@@ -86,9 +101,9 @@ bad-line sh l h = rw (lt-leb (length l) 4096 h, and-false (all isDigit l && eqb 
 same-at :
     (s : Stage) (table k l : List ℕ) → 4096 < length k → 4096 < length l → lineAt s table k ≡ lineAt s table l
 unfolding firstLine frameLine
-same-at atFirst table k l a b = rw (bad-first k a, bad-first l b)
-same-at (among f) table k l a b = rw (bad-line _ k a, bad-line _ l b)
-same-at ended table k l a b = refl
+same-at AtFirst table k l a b = rw (bad-first k a, bad-first l b)
+same-at (Among f) table k l a b = rw (bad-line _ k a, bad-line _ l b)
+same-at Ended table k l a b = refl
 
 both-long : (d : Day) (k l : List ℕ) → 4096 < length k → 4096 < length l → lineIn d k ≡ lineIn d l
 unfolding lineIn
@@ -96,11 +111,5 @@ both-long d k l a b = same-at (d .stage) (d .table) k l a b
 
 pub held-line :
     (d : Day) (l : List ℕ) (held : ℕ) (line : List ℕ) → Held l held line → lineIn d (heldLine held line) ≡ lineIn d l
-unfolding heldLine
-held-line d l held line (whole few size same) =
-    let e : leb held 4096 ≡ true = le-leb held 4096 (omega arith) in
-    rw (e, same)
-held-line d l held line (tooLong long over) =
-    let e : leb held 4096 ≡ false = lt-leb held 4096 over in
-    let n = length-replicate {A = ℕ} 4097 0 in
-    rw e (both-long d (replicate 4097 0) l (omega arith) long)
+held-line d l held line (whole few size same) = ap (lineIn d) (held-whole held line (omega arith) ∙ same)
+held-line d l held line (tooLong long over) = both-long d (heldLine held line) l (held-long held line over) long

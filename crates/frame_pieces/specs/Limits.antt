@@ -12,34 +12,38 @@ use lib.Pow.{pow-mono}
 use lib.Dec.{leb, ltb, eqb}
 use borrow.Author.Tests.{leb-true}
 use Rattle.rules.specs.Lists.{all}
-use Rattle.rules.specs.Shape.{shapeOf, homes, keys, places}
+use Rattle.rules.specs.Shape.{homes, keys, places}
 use Rattle.rules.specs.Record.{within}
 use Rattle.table_words.specs.Tests.{between}
+use Rattle.frame_rules.specs.declared.First.{First}
+use Rattle.frame_rules.specs.declared.Stage.{Stage}
+use Rattle.frame_rules.specs.declared.Stage.the-variants.{AtFirst, Among, Ended}
 use Rattle.frame_rules.specs.Digits.{isDigit, digitsOf, wordDigits}
 use Rattle.frame_digits.specs.Print.{digits-length, words-length}
-use Rattle.frame_rules.specs.Lines.{First, firstOf, inLimits, goodFirst, firstKeys, keysOf, goodLine}
+use Rattle.frame_rules.specs.Lines.{firstOf, shapeInLimits, tasksInLimits, inLimits, goodFirst, firstKeys, keysOf}
+use Rattle.frame_rules.specs.Lines.{goodLine}
 use Rattle.frame_rules.specs.Rounds.{Floor, allAnswered, play}
-use Rattle.frame_rules.specs.Frame.{Stage, atFirst, among, ended, Day, dawn, used, usedPart, withUsed, after, printed}
-use Rattle.frame_rules.specs.Frame.{error, firstLine, playedLine, frameLine, lineAt, lineIn, endAt, atEnd}
+use Rattle.frame_rules.specs.Frame.{Day, dawn, used, usedPart, withUsed, after, printed, error, firstLine, playedLine}
+use Rattle.frame_rules.specs.Frame.{frameLine, lineAt, lineIn, endAt, atEnd}
 use Rattle.frame_pieces.specs.Sizes.{play-table, play-answers}
 
 -- ---- the first line
 -- m 1 to 14, r 1 to 12, 1 to 16 tasks
 pub record Limits (f : First) : Type 0 where
-  pub m-low : 1 ≤ f .m
-  pub m-high : f .m ≤ 14
-  pub r-low : 1 ≤ f .r
-  pub r-high : f .r ≤ 12
+  pub m-low : 1 ≤ f .shape .m
+  pub m-high : f .shape .m ≤ 14
+  pub r-low : 1 ≤ f .shape .r
+  pub r-high : f .shape .r ≤ 12
   pub tasks-low : 1 ≤ f .tasks
   pub tasks-high : f .tasks ≤ 16
 
 pub limits : (f : First) → inLimits f ≡ true → Limits f
-unfolding inLimits
+unfolding inLimits shapeInLimits tasksInLimits
 limits f e =
-    let (shape, tasks) = and-eq-true-iff (within 1 14 (f .m) && within 1 12 (f .r)) (within 1 16 (f .tasks)) .0 e in
-    let (homeAt, rest) = and-eq-true-iff (within 1 14 (f .m)) (within 1 12 (f .r)) .0 shape in
-    let m = between 1 14 (f .m) homeAt in
-    let r = between 1 12 (f .r) rest in
+    let (shape, tasks) = and-eq-true-iff (shapeInLimits (f .shape)) (tasksInLimits (f .tasks)) .0 e in
+    let (homeAt, rest) = and-eq-true-iff (within 1 14 (f .shape .m)) (within 1 12 (f .shape .r)) .0 shape in
+    let m = between 1 14 (f .shape .m) homeAt in
+    let r = between 1 12 (f .shape .r) rest in
     let n = between 1 16 (f .tasks) tasks in
     record {
       m-low = m .least;
@@ -54,7 +58,7 @@ limits f e =
 pub used-fits : (f : First) → inLimits f ≡ true → used f ≤ 32772
 unfolding used places homes
 used-fits f e =
-    let high : 2 ^ f .m ≤ 2 ^ 14 = pow-mono {i = f .m} {j = 14} (limits f e .m-high) in
+    let high : 2 ^ f .shape .m ≤ 2 ^ 14 = pow-mono {i = f .shape .m} {j = 14} (limits f e .m-high) in
     omega arith
 
 -- ---- how much is printed
@@ -79,8 +83,8 @@ played-prints f table ks p few = go (allAnswered ks p)
     go :
         (done : Bool) →
         length (cond done
-        (after (among f) (withUsed f (p .table) table) (printed (digitsOf (p .answers))))
-        (after ended (withUsed f (p .table) table) error) .prints) ≤ 1025
+        (after (Among f) (withUsed f (p .table) table) (printed (digitsOf (p .answers))))
+        (after Ended (withUsed f (p .table) table) error) .prints) ≤ 1025
     go true =
         let e = printed-length (digitsOf (p .answers)) in
         let h = digits-length (p .answers) in
@@ -88,30 +92,30 @@ played-prints f table ks p few = go (allAnswered ks p)
     go false = omega arith
 
 -- a good line has at most 512 keys
-pub few-keys : (f : First) (line : List ℕ) → goodLine (shapeOf (f .m) (f .r)) line ≡ true → length line ≤ 4096
+pub few-keys : (f : First) (line : List ℕ) → goodLine (f .shape) line ≡ true → length line ≤ 4096
 unfolding goodLine
 few-keys f line e =
     let front = and-eq-true-iff
     (all isDigit line && eqb (length line % 8) 0 && leb (length line) 4096)
-    (all (λ (key : ℕ). ltb key (keys (shapeOf (f .m) (f .r)))) (keysOf line)) .0 e .0 in
+    (all (λ (key : ℕ). ltb key (keys (f .shape))) (keysOf line)) .0 e .0 in
     leb-true (length line) 4096 (and-eq-true-iff
     (all isDigit line && eqb (length line % 8) 0)
     (leb (length line) 4096) .0 front .1)
 
 frame-prints : (f : First) (table line : List ℕ) → length (frameLine f table line .prints) ≤ 1025
 unfolding frameLine
-frame-prints f table line = go (goodLine (shapeOf (f .m) (f .r)) line) refl
+frame-prints f table line = go (goodLine (f .shape) line) refl
   where
     go :
-        (good : Bool) → goodLine (shapeOf (f .m) (f .r)) line ≡ good →
+        (good : Bool) → goodLine (f .shape) line ≡ good →
         length (cond good
-        (playedLine f table (keysOf line) (play (f .m) (f .r) (f .tasks) (usedPart f table) (keysOf line)))
-        (after (among f) table error) .prints) ≤ 1025
+        (playedLine f table (keysOf line) (play f (usedPart f table) (keysOf line)))
+        (after (Among f) table error) .prints) ≤ 1025
     go true e =
         let few = few-keys f line e in
         let count = keys-count line in
-        let size = play-answers (f .m) (f .r) (f .tasks) (usedPart f table) (keysOf line) in
-        played-prints f table (keysOf line) (play (f .m) (f .r) (f .tasks) (usedPart f table) (keysOf line))
+        let size = play-answers f (usedPart f table) (keysOf line) in
+        played-prints f table (keysOf line) (play f (usedPart f table) (keysOf line))
         (omega arith)
     go false e = omega arith
 
@@ -121,14 +125,14 @@ first-prints table line = go (goodFirst line)
   where
     go :
         (good : Bool) →
-        length (cond good (after (among (firstOf line)) table []) (after ended table error) .prints) ≤ 1025
+        length (cond good (after (Among (firstOf line)) table []) (after Ended table error) .prints) ≤ 1025
     go true = omega arith
     go false = omega arith
 
 prints-at : (s : Stage) (table line : List ℕ) → length (lineAt s table line .prints) ≤ 1025
-prints-at atFirst table line = first-prints table line
-prints-at (among f) table line = frame-prints f table line
-prints-at ended table line = omega arith
+prints-at AtFirst table line = first-prints table line
+prints-at (Among f) table line = frame-prints f table line
+prints-at Ended table line = omega arith
 
 pub line-prints : (d : Day) (line : List ℕ) → length (lineIn d line .prints) ≤ 1025
 unfolding lineIn
@@ -136,9 +140,9 @@ line-prints d line = prints-at (d .stage) (d .table) line
 
 -- ---- a fit day
 abbrev pub inStage : Stage → Type 0
-inStage atFirst = Unit {0}
-inStage (among f) = inLimits f ≡ true
-inStage ended = Unit {0}
+inStage AtFirst = Unit {0}
+inStage (Among f) = inLimits f ≡ true
+inStage Ended = Unit {0}
 
 pub record Fit (d : Day) : Type 0 where
   pub stage : inStage (d .stage)
@@ -149,14 +153,14 @@ unfolding dawn
 dawn-fits = record { stage = tt; table = length-replicate {A = ℕ} 32772 0 }
 
 ends-at : (s : Stage) (table : List ℕ) → inStage s → length (endAt s table) ≤ 65545
-ends-at atFirst table i = omega arith
-ends-at (among f) table i =
+ends-at AtFirst table i = omega arith
+ends-at (Among f) table i =
     let e = printed-length (wordDigits (usedPart f table)) in
     let h = words-length (usedPart f table) in
     let l = length-take (used f) table in
     let u = used-fits f i in
     omega arith
-ends-at ended table i = omega arith
+ends-at Ended table i = omega arith
 
 pub end-prints : (d : Day) → Fit d → length (atEnd d) ≤ 65545
 unfolding atEnd
@@ -183,27 +187,27 @@ played-fits f table ks p i size = go (allAnswered ks p)
         (done : Bool) →
         Fit
         (cond done
-        (after (among f) (withUsed f (p .table) table) (printed (digitsOf (p .answers))))
-        (after ended (withUsed f (p .table) table) error) .day)
+        (after (Among f) (withUsed f (p .table) table) (printed (digitsOf (p .answers))))
+        (after Ended (withUsed f (p .table) table) error) .day)
     go true = record { stage = i; table = size }
     go false = record { stage = tt; table = size }
 
 frame-fits :
     (f : First) (table line : List ℕ) → inLimits f ≡ true → length table ≡ 32772 → Fit (frameLine f table line .day)
 unfolding frameLine
-frame-fits f table line i size = go (goodLine (shapeOf (f .m) (f .r)) line)
+frame-fits f table line i size = go (goodLine (f .shape) line)
   where
     go :
         (good : Bool) →
         Fit
         (cond good
-        (playedLine f table (keysOf line) (play (f .m) (f .r) (f .tasks) (usedPart f table) (keysOf line)))
-        (after (among f) table error) .day)
+        (playedLine f table (keysOf line) (play f (usedPart f table) (keysOf line)))
+        (after (Among f) table error) .day)
     go true =
-        let p = play (f .m) (f .r) (f .tasks) (usedPart f table) (keysOf line) in
+        let p = play f (usedPart f table) (keysOf line) in
         played-fits f table (keysOf line) p i
         (used-kept f (p .table) table i size
-        (play-table (f .m) (f .r) (f .tasks) (usedPart f table) (keysOf line)))
+        (play-table f (usedPart f table) (keysOf line)))
     go false = record { stage = i; table = size }
 
 first-fits : (table line : List ℕ) → length table ≡ 32772 → Fit (firstLine table line .day)
@@ -212,7 +216,7 @@ first-fits table line size = go (goodFirst line) refl
   where
     go :
         (good : Bool) → goodFirst line ≡ good →
-        Fit (cond good (after (among (firstOf line)) table []) (after ended table error) .day)
+        Fit (cond good (after (Among (firstOf line)) table []) (after Ended table error) .day)
     go true e =
         record {
           stage = and-eq-true-iff (eqb (length line) 6 && all isDigit line) (inLimits (firstOf line)) .0 e .1;
@@ -221,9 +225,9 @@ first-fits table line size = go (goodFirst line) refl
     go false e = record { stage = tt; table = size }
 
 fits-at : (s : Stage) (table line : List ℕ) → inStage s → length table ≡ 32772 → Fit (lineAt s table line .day)
-fits-at atFirst table line i size = first-fits table line size
-fits-at (among f) table line i size = frame-fits f table line i size
-fits-at ended table line i size = record { stage = tt; table = size }
+fits-at AtFirst table line i size = first-fits table line size
+fits-at (Among f) table line i size = frame-fits f table line i size
+fits-at Ended table line i size = record { stage = tt; table = size }
 
 pub line-fits : (d : Day) (line : List ℕ) → Fit d → Fit (lineIn d line .day)
 unfolding lineIn

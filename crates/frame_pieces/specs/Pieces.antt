@@ -1,5 +1,5 @@
 -- The input may come in any pieces: a caller that feeds them one after the other and finishes has been given, all in
--- all, the output that the crate format defines for the whole input (`any-pieces`), and no call was refused.
+-- all, the output that the crate frame_rules defines for the whole input (`any-pieces`), and no call was refused.
 -- Assumes nothing.
 use Prim.Native.Nat.{ℕ, zero, suc, _+_, _≤_, _<_}
 use mathlib.Core.Path.{_≡_, refl, sym, ap, _∙_}
@@ -11,10 +11,11 @@ use lib.Seq.{take-all, take-add}
 use lib.Dec.{ltb}
 use borrow.Author.Tests.{ltb-true, ltb-false}
 use Rattle.frame_rules.specs.declared.Run.{Run}
+use Rattle.frame_rules.specs.declared.Stage.the-variants.{AtFirst}
 use Rattle.frame_rules.specs.Lines.{linesOf}
-use Rattle.frame_rules.specs.Frame.{atFirst, dawn, output}
-use Rattle.frame_rules.specs.Feed.{Buffers, lentBuffers, dayOf, runOf, Feeding, feeds, refused, feed, Finishing}
-use Rattle.frame_rules.specs.Feed.{finishes, refusedToo, finish}
+use Rattle.frame_rules.specs.Frame.{dawn, output}
+use Rattle.frame_rules.specs.Feed.{Buffers, lentBuffers, runOf, Feeding, feeds, refused, feed, Finishing, finishes}
+use Rattle.frame_rules.specs.Feed.{refusedToo, finish}
 use Rattle.frame_pieces.specs.Limits.{dawn-fits}
 use Rattle.frame_pieces.specs.Reading.{fromHere}
 use Rattle.frame_pieces.specs.Held.{none-held}
@@ -64,7 +65,7 @@ finishAll astray = short
 
 -- all of it: from the first line on, nothing of a line held and nothing printed
 unfoldable pub fedAndFinished : List (List ℕ) → Buffers → Written
-fedAndFinished pieces b = finishAll (feedAll pieces (goes (runOf atFirst) b []))
+fedAndFinished pieces b = finishAll (feedAll pieces (goes (runOf AtFirst) b []))
 
 -- ---- the proof
 -- a caller that has fed some input is right: of any input that begins so, the whole output is the text that it has,
@@ -160,8 +161,8 @@ whole-right {input} (right {run} {b} {text} l s same) =
 -- a caller that begins has fed nothing
 begins :
     (line out : List ℕ) → 4096 ≤ length line → 66570 ≤ length out →
-    Right [] (goes (runOf atFirst) (lentBuffers line (replicate 32772 0) out) [])
-unfolding output linesOf dawn fromHere dayOf
+    Right [] (goes (runOf AtFirst) (lentBuffers line (replicate 32772 0) out) [])
+unfolding output linesOf dawn fromHere
 begins line out held room =
     right []
     (record {

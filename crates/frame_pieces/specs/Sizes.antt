@@ -11,7 +11,7 @@ use Rattle.rules.specs.declared.Shape.{Shape}
 use Rattle.rules.specs.declared.Task.{Task}
 use Rattle.rules.specs.Word.{Word}
 use Rattle.rules.specs.Bytes.{wordsOf}
-use Rattle.rules.specs.Shape.{shapeOf, inRange, keys, places, goodTable}
+use Rattle.rules.specs.Shape.{inRange, keys, places, goodTable}
 use Rattle.rules.specs.Record.{homePlaceOf, atRest, taskAt, goodTask}
 use Rattle.rules.specs.Answer as answer
 use Rattle.rules.specs.Answer.{Leaves, leaves}
@@ -23,6 +23,7 @@ use Rattle.table_words.specs.Layout.{words-length, bytes-length, change-length,
 use Rattle.table_words.specs.Range.{good-table}
 use Rattle.frame_rules.specs.Rounds.{Floor, start, afterTake, afterStep, turn, turns, round, allAnswered, rounds, limit}
 use Rattle.frame_rules.specs.Rounds.{play}
+use Rattle.frame_rules.specs.declared.First.{First}
 
 -- ---- a phase leaves as many words as there were
 data Sized (n : ℕ) : Step → Type 0 where
@@ -135,46 +136,47 @@ lent-tasks : (bytes : List ℕ) (ts : List Task) (i : ℕ) (x : Stepped) → tas
 lent-tasks bytes ts i (steps t ws) = length-set ts i t
 lent-tasks bytes ts i (refused k) = refl
 
-module _ (m r : ℕ) (bytes : List ℕ) (ts : List Task) (i : ℕ) where
-  pub step-bytes : bytesAfter (step m r bytes ts i) ≡ length bytes
+module _ (sh : Shape) (bytes : List ℕ) (ts : List Task) (i : ℕ) where
+  pub step-bytes : bytesAfter (step sh bytes ts i) ≡ length bytes
   unfolding step
-  step-bytes = go (goodTable (shapeOf m r) (length bytes)) (goodTask ts i) refl
+  step-bytes = go (goodTable sh (length bytes)) (goodTask ts i) refl
     where
       go :
-          (good task : Bool) → goodTable (shapeOf m r) (length bytes) ≡ good →
+          (good task : Bool) → goodTable sh (length bytes) ≡ good →
           bytesAfter (cond good
           (cond task
-          (lentAfter bytes ts i (stepOf (shapeOf m r) (wordsOf bytes) (taskAt ts i)))
+          (lentAfter bytes ts i (stepOf sh (wordsOf bytes) (taskAt ts i)))
           (leaves (answer.refuses 3) (record { table = bytes; tasks = ts })))
           (leaves (answer.refuses 1) (record { table = bytes; tasks = ts }))) ≡ length bytes
       go true true e =
-          let size = good-table (shapeOf m r) (length bytes) e .1 in
-          let count = words-length bytes (places (shapeOf m r)) size in
-          lent-bytes bytes ts i (rw count size) (step-stays (shapeOf m r) (wordsOf bytes) (taskAt ts i))
+          let size = good-table sh (length bytes) e .1 in
+          let count = words-length bytes (places sh) size in
+          lent-bytes bytes ts i (rw count size) (step-stays sh (wordsOf bytes) (taskAt ts i))
       go true false e = refl
       go false task e = refl
 
-  pub step-tasks : tasksAfter (step m r bytes ts i) ≡ length ts
+  pub step-tasks : tasksAfter (step sh bytes ts i) ≡ length ts
   unfolding step
-  step-tasks = go (goodTable (shapeOf m r) (length bytes)) (goodTask ts i)
+  step-tasks = go (goodTable sh (length bytes)) (goodTask ts i)
     where
       go :
           (good task : Bool) →
           tasksAfter (cond good
           (cond task
-          (lentAfter bytes ts i (stepOf (shapeOf m r) (wordsOf bytes) (taskAt ts i)))
+          (lentAfter bytes ts i (stepOf sh (wordsOf bytes) (taskAt ts i)))
           (leaves (answer.refuses 3) (record { table = bytes; tasks = ts })))
           (leaves (answer.refuses 1) (record { table = bytes; tasks = ts }))) ≡ length ts
-      go true true = lent-tasks bytes ts i (stepOf (shapeOf m r) (wordsOf bytes) (taskAt ts i))
+      go true true = lent-tasks bytes ts i (stepOf sh (wordsOf bytes) (taskAt ts i))
       go true false = refl
       go false task = refl
 
 stored-tasks : (ts : List Task) (i : ℕ) (x : Leaves Task) → givenAfter (storedAt ts i x) ≡ length ts
 stored-tasks ts i (leaves a t) = length-set ts i t
 
-pub give-tasks : (m r key : ℕ) (ts : List Task) (i : ℕ) → givenAfter (give m r key ts i) ≡ length ts
+pub give-tasks :
+    (sh : Shape) (key : ℕ) (ts : List Task) (i : ℕ) → givenAfter (give sh key ts i) ≡ length ts
 unfolding give
-give-tasks m r key ts i = go (inRange (shapeOf m r)) (ltb key (keys (shapeOf m r))) (goodTask ts i)
+give-tasks sh key ts i = go (inRange sh) (ltb key (keys sh)) (goodTask ts i)
   where
     go :
         (range low task : Bool) →
@@ -189,15 +191,15 @@ give-tasks m r key ts i = go (inRange (shapeOf m r)) (ltb key (keys (shapeOf m r
     go false low task = refl
 
 -- ---- a line's play keeps all three sizes
-pub record Sizes (f g : Floor) : Type 0 where
-  pub table : length (g .table) ≡ length (f .table)
-  pub tasks : length (g .tasks) ≡ length (f .tasks)
-  pub answers : length (g .answers) ≡ length (f .answers)
+pub record Sizes (p q : Floor) : Type 0 where
+  pub table : length (q .table) ≡ length (p .table)
+  pub tasks : length (q .tasks) ≡ length (p .tasks)
+  pub answers : length (q .answers) ≡ length (p .answers)
 
-same-sizes : (f : Floor) → Sizes f f
-same-sizes f = record { table = refl; tasks = refl; answers = refl }
+same-sizes : (p : Floor) → Sizes p p
+same-sizes p = record { table = refl; tasks = refl; answers = refl }
 
-then : {f g h : Floor} → Sizes f g → Sizes g h → Sizes f h
+then : {p q s : Floor} → Sizes p q → Sizes q s → Sizes p s
 then a b =
     record {
       table = b .table ∙ a .table;
@@ -206,9 +208,9 @@ then a b =
     }
 
 take-sizes :
-    (f : Floor) (i : ℕ) (x : Leaves (List Task)) → givenAfter x ≡ length (f .tasks) →
-    Sizes f (afterTake f i x)
-take-sizes f i (leaves a ts) e = record { table = refl; tasks = e; answers = refl }
+    (p : Floor) (i : ℕ) (x : Leaves (List Task)) → givenAfter x ≡ length (p .tasks) →
+    Sizes p (afterTake p i x)
+take-sizes p i (leaves a ts) e = record { table = refl; tasks = e; answers = refl }
 
 answered-length :
     (done : Bool) (xs : List ℕ) (k a : ℕ) → length (cond done (set xs k a) xs) ≡ length xs
@@ -216,71 +218,71 @@ answered-length true xs k a = length-set xs k a
 answered-length false xs k a = refl
 
 step-sizes :
-    (f : Floor) (i : ℕ) (x : Leaves Lent) → bytesAfter x ≡ length (f .table) → tasksAfter x ≡ length (f .tasks) →
-    Sizes f (afterStep f i x)
-step-sizes f i (leaves a l) e u =
+    (p : Floor) (i : ℕ) (x : Leaves Lent) → bytesAfter x ≡ length (p .table) → tasksAfter x ≡ length (p .tasks) →
+    Sizes p (afterStep p i x)
+step-sizes p i (leaves a l) e u =
     record {
       table = e;
       tasks = u;
       answers =
           answered-length
           (eqb (taskAt (l .tasks) i .phase) 13)
-          (f .answers)
-          (getD (f .serving) i 0)
+          (p .answers)
+          (getD (p .serving) i 0)
           (taskAt (l .tasks) i .answer);
     }
 
-module _ (m r : ℕ) (ks : List ℕ) where
-  turn-sizes : (i : ℕ) (f : Floor) → Sizes f (turn m r ks i f)
+module _ (f : First) (ks : List ℕ) where
+  turn-sizes : (i : ℕ) (p : Floor) → Sizes p (turn f ks i p)
   unfolding turn
-  turn-sizes i f = go (atRest (taskAt (f .tasks) i)) (ltb (f .taken) (length ks))
+  turn-sizes i p = go (atRest (taskAt (p .tasks) i)) (ltb (p .taken) (length ks))
     where
       go :
           (rest more : Bool) →
-          Sizes f
+          Sizes p
           (cond rest
-          (cond more (afterTake f i (give m r (getD ks (f .taken) 0) (f .tasks) i)) f)
-          (afterStep f i (step m r (f .table) (f .tasks) i)))
+          (cond more (afterTake p i (give (f .shape) (getD ks (p .taken) 0) (p .tasks) i)) p)
+          (afterStep p i (step (f .shape) (p .table) (p .tasks) i)))
       go true true =
-          take-sizes f i
-          (give m r (getD ks (f .taken) 0) (f .tasks) i)
-          (give-tasks m r (getD ks (f .taken) 0) (f .tasks) i)
-      go true false = same-sizes f
+          take-sizes p i
+          (give (f .shape) (getD ks (p .taken) 0) (p .tasks) i)
+          (give-tasks (f .shape) (getD ks (p .taken) 0) (p .tasks) i)
+      go true false = same-sizes p
       go false more =
-          step-sizes f i
-          (step m r (f .table) (f .tasks) i)
-          (step-bytes m r (f .table) (f .tasks) i)
-          (step-tasks m r (f .table) (f .tasks) i)
+          step-sizes p i
+          (step (f .shape) (p .table) (p .tasks) i)
+          (step-bytes (f .shape) (p .table) (p .tasks) i)
+          (step-tasks (f .shape) (p .table) (p .tasks) i)
 
-  turns-sizes : (n i : ℕ) (f : Floor) → Sizes f (turns m r ks n i f)
+  turns-sizes : (n i : ℕ) (p : Floor) → Sizes p (turns f ks n i p)
   unfolding turns
-  turns-sizes zero i f = same-sizes f
-  turns-sizes (suc n) i f = then (turn-sizes i f) (turns-sizes n (suc i) (turn m r ks i f))
+  turns-sizes zero i p = same-sizes p
+  turns-sizes (suc n) i p = then (turn-sizes i p) (turns-sizes n (suc i) (turn f ks i p))
 
-  round-sizes : (f : Floor) → Sizes f (round m r ks f)
+  round-sizes : (p : Floor) → Sizes p (round f ks p)
   unfolding round
-  round-sizes f = turns-sizes (length (f .tasks)) 0 f
+  round-sizes p = turns-sizes (length (p .tasks)) 0 p
 
-  rounds-sizes : (n : ℕ) (f : Floor) → Sizes f (rounds m r ks n f)
+  rounds-sizes : (n : ℕ) (p : Floor) → Sizes p (rounds f ks n p)
   unfolding rounds
-  rounds-sizes zero f = same-sizes f
-  rounds-sizes (suc n) f = go (allAnswered ks f) (rounds-sizes n (round m r ks f))
+  rounds-sizes zero p = same-sizes p
+  rounds-sizes (suc n) p = go (allAnswered ks p) (rounds-sizes n (round f ks p))
     where
       go :
-          (done : Bool) → Sizes (round m r ks f) (rounds m r ks n (round m r ks f)) →
-          Sizes f (cond done f (rounds m r ks n (round m r ks f)))
-      go true next = same-sizes f
-      go false next = then (round-sizes f) next
+          (done : Bool) → Sizes (round f ks p) (rounds f ks n (round f ks p)) →
+          Sizes p (cond done p (rounds f ks n (round f ks p)))
+      go true next = same-sizes p
+      go false next = then (round-sizes p) next
 
-pub play-sizes : (m r n : ℕ) (bytes ks : List ℕ) → Sizes (start bytes n ks) (play m r n bytes ks)
+pub play-sizes : (f : First) (bytes ks : List ℕ) → Sizes (start bytes (f .tasks) ks) (play f bytes ks)
 unfolding play
-play-sizes m r n bytes ks = rounds-sizes m r ks (limit m (length ks)) (start bytes n ks)
+play-sizes f bytes ks = rounds-sizes f ks (limit (f .shape) (length ks)) (start bytes (f .tasks) ks)
 
 -- the table as long as it was, and an answer for each key
-pub play-table : (m r n : ℕ) (bytes ks : List ℕ) → length (play m r n bytes ks .table) ≡ length bytes
+pub play-table : (f : First) (bytes ks : List ℕ) → length (play f bytes ks .table) ≡ length bytes
 unfolding start
-play-table m r n bytes ks = play-sizes m r n bytes ks .table
+play-table f bytes ks = play-sizes f bytes ks .table
 
-pub play-answers : (m r n : ℕ) (bytes ks : List ℕ) → length (play m r n bytes ks .answers) ≡ length ks
+pub play-answers : (f : First) (bytes ks : List ℕ) → length (play f bytes ks .answers) ≡ length ks
 unfolding start
-play-answers m r n bytes ks = play-sizes m r n bytes ks .answers ∙ length-replicate (length ks) 0
+play-answers f bytes ks = play-sizes f bytes ks .answers ∙ length-replicate (length ks) 0

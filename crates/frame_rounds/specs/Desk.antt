@@ -15,6 +15,7 @@ use borrow.Author.Tests.{eq-eqb, ne-eqb}
 use Rattle.rules.specs.declared.Task.{Task}
 use Rattle.rules.specs.Record.{noTask, taskAt, atRest}
 use Rattle.rules.specs.Lists.{all}
+use Rattle.frame_rules.specs.declared.First.{First}
 use Rattle.frame_rules.specs.Lines.{keysOf}
 use Rattle.frame_rules.specs.Rounds.{Floor, turn, turns, round, allAnswered, rounds}
 use Rattle.frame_rounds.specs.declared.round.Desk.{Desk}
@@ -32,97 +33,102 @@ abbrev pub floorOf : ℕ → List ℕ → List ℕ → Desk → Floor
 floorOf n table answers d = floorWith n table answers (d .tasks) (d .serving) (d .taken)
 
 -- the turns that are left of a round
-abbrev pub turnsFrom : ℕ → ℕ → List ℕ → ℕ → ℕ → Floor → Floor
-turnsFrom m r ks n i f = turns m r ks (n - i) i f
+abbrev pub turnsFrom : First → List ℕ → ℕ → Floor → Floor
+turnsFrom f ks i p = turns f ks (f .tasks - i) i p
 
-module _ (m r : ℕ) (ks : List ℕ) (n : ℕ) (few : n ≤ 16) where
+module _ (f : First) (ks : List ℕ) (few : f .tasks ≤ 16) where
   pub round-begins : (table answers : List ℕ) (ts : List Task) (hs : List ℕ) (k : ℕ) → length ts ≡ 16 →
-      turnsFrom m r ks n 0 (floorWith n table answers ts hs k) ≡ round m r ks (floorWith n table answers ts hs k)
+      turnsFrom f ks 0 (floorWith (f .tasks) table answers ts hs k)
+      ≡ round f ks (floorWith (f .tasks) table answers ts hs k)
   unfolding round
   round-begins table answers ts hs k size =
-      let whole : n - 0 ≡ length (take n ts) = omega (arith, length-take-le n ts (omega arith)) in
-      ap (λ (j : ℕ). turns m r ks j 0 (floorWith n table answers ts hs k)) whole
+      let whole : f .tasks - 0 ≡ length (take (f .tasks) ts) =
+      omega (arith, length-take-le (f .tasks) ts (omega arith)) in
+      ap (λ (j : ℕ). turns f ks j 0 (floorWith (f .tasks) table answers ts hs k)) whole
 
-  pub turns-end : (i : ℕ) (f : Floor) → n ≤ i → turnsFrom m r ks n i f ≡ f
+  pub turns-end : (i : ℕ) (p : Floor) → f .tasks ≤ i → turnsFrom f ks i p ≡ p
   unfolding turns
-  turns-end i f done = let none : n - i ≡ 0 = omega arith in rw none
+  turns-end i p done = let none : f .tasks - i ≡ 0 = omega arith in rw none
 
-  module _ (i : ℕ) (here : i < n) (table answers : List ℕ) (ts : List Task) (hs : List ℕ) (k : ℕ)
+  module _ (i : ℕ) (here : i < f .tasks) (table answers : List ℕ) (ts : List Task) (hs : List ℕ) (k : ℕ)
       (sized : length ts ≡ 16)
     where
       one :
           (x : Sat) →
-          x ≡ turnOne m r ks table answers (record { task = taskAt ts i; serving = getD hs i 0; taken = k }) →
-          turn m r ks i (floorWith n table answers ts hs k)
-          ≡ floorWith n (x .table) (x .answers) (set ts i (x .sitting .task)) (set hs i (x .sitting .serving))
+          x ≡ turnOne f ks table answers (record { task = taskAt ts i; serving = getD hs i 0; taken = k }) →
+          turn f ks i (floorWith (f .tasks) table answers ts hs k)
+          ≡ floorWith (f .tasks) (x .table) (x .answers) (set ts i (x .sitting .task)) (set hs i (x .sitting .serving))
           (x .sitting .taken)
       one x e =
-          turn-one m r ks i (floorWith n table answers ts hs k) inside
-          (omega (arith, length-take-le n ts (omega arith)))
-          ∙ rw (getD-take n ts i noTask here, getD-take n hs i 0 here, sym e)
-          (rw (take-set-lt n ts i (x .sitting .task) here, take-set-lt n hs i (x .sitting .serving) here))
+          turn-one f ks i (floorWith (f .tasks) table answers ts hs k) inside
+          (omega (arith, length-take-le (f .tasks) ts (omega arith)))
+          ∙ rw (getD-take (f .tasks) ts i noTask here, getD-take (f .tasks) hs i 0 here, sym e)
+          (rw (
+            take-set-lt (f .tasks) ts i (x .sitting .task) here,
+            take-set-lt (f .tasks) hs i (x .sitting .serving) here,
+          ))
         where
-          inside : i < length (take n ts)
-          inside = omega (arith, length-take-le n ts (omega arith))
+          inside : i < length (take (f .tasks) ts)
+          inside = omega (arith, length-take-le (f .tasks) ts (omega arith))
 
       pub turns-on : (table' answers' : List ℕ) (s : Sitting) →
           sat table' answers' s
-          ≡ turnOne m r ks table answers (record { task = taskAt ts i; serving = getD hs i 0; taken = k }) →
-          turnsFrom m r ks n (i + 1)
-          (floorWith n table' answers' (set ts i (s .task)) (set hs i (s .serving)) (s .taken))
-          ≡ turnsFrom m r ks n i (floorWith n table answers ts hs k)
+          ≡ turnOne f ks table answers (record { task = taskAt ts i; serving = getD hs i 0; taken = k }) →
+          turnsFrom f ks (i + 1)
+          (floorWith (f .tasks) table' answers' (set ts i (s .task)) (set hs i (s .serving)) (s .taken))
+          ≡ turnsFrom f ks i (floorWith (f .tasks) table answers ts hs k)
       unfolding turns
       turns-on table' answers' s e =
-          let less : suc (n - (i + 1)) ≡ n - i = omega arith in
-          ap (λ (j : ℕ). turns m r ks (n - (i + 1)) j after) (add-one i)
-          ∙ ap (turns m r ks (n - (i + 1)) (suc i)) (sym (one (sat table' answers' s) e))
-          ∙ ap (λ (k' : ℕ). turns m r ks k' i (floorWith n table answers ts hs k)) less
+          let less : suc (f .tasks - (i + 1)) ≡ f .tasks - i = omega arith in
+          ap (λ (j : ℕ). turns f ks (f .tasks - (i + 1)) j after) (add-one i)
+          ∙ ap (turns f ks (f .tasks - (i + 1)) (suc i)) (sym (one (sat table' answers' s) e))
+          ∙ ap (λ (k' : ℕ). turns f ks k' i (floorWith (f .tasks) table answers ts hs k)) less
         where
           after : Floor
-          after = floorWith n table' answers' (set ts i (s .task)) (set hs i (s .serving)) (s .taken)
+          after = floorWith (f .tasks) table' answers' (set ts i (s .task)) (set hs i (s .serving)) (s .taken)
 
 -- ---- the loop of a round: task i is next
-pub record Turning (m r : ℕ) (ks : List ℕ) (n : ℕ) (f₀ : Floor) (table answers : List ℕ) (ts : List Task)
+pub record Turning (f : First) (ks : List ℕ) (p₀ : Floor) (table answers : List ℕ) (ts : List Task)
     (hs : List ℕ) (k i : ℕ) : Type 0 where
-  pub low : i ≤ n
-  pub size : length table ≡ length (f₀ .table)
-  pub slots : length answers ≡ length (f₀ .answers)
+  pub low : i ≤ f .tasks
+  pub size : length table ≡ length (p₀ .table)
+  pub slots : length answers ≡ length (p₀ .answers)
   pub seats : length ts ≡ 16
-  pub left : turnsFrom m r ks n i (floorWith n table answers ts hs k) ≡ round m r ks f₀
+  pub left : turnsFrom f ks i (floorWith (f .tasks) table answers ts hs k) ≡ round f ks p₀
 
-module _ {m r : ℕ} {ks : List ℕ} {n : ℕ} (few : n ≤ 16) where
+module _ {f : First} {ks : List ℕ} (few : f .tasks ≤ 16) where
   pub turning-begins :
       {table answers : List ℕ} {ts : List Task} {hs : List ℕ} {k : ℕ} → length ts ≡ 16 →
-      Turning m r ks n (floorWith n table answers ts hs k) table answers ts hs k 0
+      Turning f ks (floorWith (f .tasks) table answers ts hs k) table answers ts hs k 0
   turning-begins {table} {answers} {ts} {hs} {k} seats =
       record {
         low = omega arith;
         size = refl;
         slots = refl;
         seats = seats;
-        left = round-begins m r ks n few table answers ts hs k seats;
+        left = round-begins f ks few table answers ts hs k seats;
       }
 
-  module _ {f₀ : Floor} {table answers : List ℕ} {ts : List Task} {hs : List ℕ} {k i : ℕ}
-      (inv : Turning m r ks n f₀ table answers ts hs k i)
+  module _ {p₀ : Floor} {table answers : List ℕ} {ts : List Task} {hs : List ℕ} {k i : ℕ}
+      (inv : Turning f ks p₀ table answers ts hs k i)
     where
       pub turning-on :
-          {table' answers' : List ℕ} {s : Sitting} → i < n →
+          {table' answers' : List ℕ} {s : Sitting} → i < f .tasks →
           sat table' answers' s
-          ≡ turnOne m r ks table answers (record { task = taskAt ts i; serving = getD hs i 0; taken = k }) →
+          ≡ turnOne f ks table answers (record { task = taskAt ts i; serving = getD hs i 0; taken = k }) →
           length table' ≡ length table → length answers' ≡ length answers →
-          Turning m r ks n f₀ table' answers' (set ts i (s .task)) (set hs i (s .serving)) (s .taken) (i + 1)
+          Turning f ks p₀ table' answers' (set ts i (s .task)) (set hs i (s .serving)) (s .taken) (i + 1)
       turning-on {table'} {answers'} {s} here e same same' =
           record {
             low = omega arith;
             size = same ∙ inv .size;
             slots = same' ∙ inv .slots;
             seats = length-set ts i (s .task) ∙ inv .seats;
-            left = turns-on m r ks n few i here table answers ts hs k (inv .seats) table' answers' s e ∙ inv .left;
+            left = turns-on f ks few i here table answers ts hs k (inv .seats) table' answers' s e ∙ inv .left;
           }
 
-      pub turning-ends : n ≤ i → floorWith n table answers ts hs k ≡ round m r ks f₀
-      turning-ends done = sym (turns-end m r ks n few i (floorWith n table answers ts hs k) done) ∙ inv .left
+      pub turning-ends : f .tasks ≤ i → floorWith (f .tasks) table answers ts hs k ≡ round f ks p₀
+      turning-ends done = sym (turns-end f ks few i (floorWith (f .tasks) table answers ts hs k) done) ∙ inv .left
 
 -- ---- whether the first n tasks are all at rest
 module _ (ts : List Task) (n i : ℕ) (few : n ≤ length ts) where
@@ -161,29 +167,29 @@ module _ (line : List ℕ) (n : ℕ) (d : Desk) where
   answered-not e = rw (ne-eqb (d .taken) (length (keysOf line)) (λ same. e (same ∙ keys-count line)))
 
 -- ---- the loop of rounds: n of them are left
-pub record Playing (m r : ℕ) (ks : List ℕ) (tasks limit : ℕ) (f₀ : Floor) (table answers : List ℕ) (d : Desk) (n : ℕ)
+pub record Playing (f : First) (ks : List ℕ) (limit : ℕ) (p₀ : Floor) (table answers : List ℕ) (d : Desk) (n : ℕ)
     : Type 0 where
-  pub size : length table ≡ length (f₀ .table)
-  pub slots : length answers ≡ length (f₀ .answers)
-  pub left : rounds m r ks n (floorOf tasks table answers d) ≡ rounds m r ks limit f₀
+  pub size : length table ≡ length (p₀ .table)
+  pub slots : length answers ≡ length (p₀ .answers)
+  pub left : rounds f ks n (floorOf (f .tasks) table answers d) ≡ rounds f ks limit p₀
 
-module _ {m r : ℕ} {ks : List ℕ} {tasks limit : ℕ} where
+module _ {f : First} {ks : List ℕ} {limit : ℕ} where
   pub playing-begins :
       {table answers : List ℕ} {d : Desk} →
-      Playing m r ks tasks limit (floorOf tasks table answers d) table answers d limit
+      Playing f ks limit (floorOf (f .tasks) table answers d) table answers d limit
   playing-begins = record { size = refl; slots = refl; left = refl }
 
-  module _ {f₀ : Floor} {table answers : List ℕ} {d : Desk} {n : ℕ}
-      (inv : Playing m r ks tasks limit f₀ table answers d n)
+  module _ {p₀ : Floor} {table answers : List ℕ} {d : Desk} {n : ℕ}
+      (inv : Playing f ks limit p₀ table answers d n)
     where
       abbrev here : Floor
-      here = floorOf tasks table answers d
+      here = floorOf (f .tasks) table answers d
 
       pub playing-on :
-          {table' answers' : List ℕ} {d' : Desk} {b : Bool} → 0 < n → b ≡ answeredAt tasks ks d → b ≡ false →
-          floorOf tasks table' answers' d' ≡ round m r ks here →
+          {table' answers' : List ℕ} {d' : Desk} {b : Bool} → 0 < n → b ≡ answeredAt (f .tasks) ks d → b ≡ false →
+          floorOf (f .tasks) table' answers' d' ≡ round f ks here →
           length table' ≡ length table → length answers' ≡ length answers →
-          Playing m r ks tasks limit f₀ table' answers' d' (n - 1)
+          Playing f ks limit p₀ table' answers' d' (n - 1)
       unfolding rounds
       playing-on {table'} {answers'} {d'} more asked busy e same same' =
           let next : suc (n - 1) ≡ n = omega arith in
@@ -191,25 +197,25 @@ module _ {m r : ℕ} {ks : List ℕ} {tasks limit : ℕ} where
             size = same ∙ inv .size;
             slots = same' ∙ inv .slots;
             left =
-                ap (rounds m r ks (n - 1)) e
-                ∙ sym (ap (λ (b : Bool). cond b here (rounds m r ks (n - 1) (round m r ks here)))
-                (sym (answered-floor tasks ks table answers d) ∙ sym asked ∙ busy))
-                ∙ ap (λ (k : ℕ). rounds m r ks k here) next
+                ap (rounds f ks (n - 1)) e
+                ∙ sym (ap (λ (b : Bool). cond b here (rounds f ks (n - 1) (round f ks here)))
+                (sym (answered-floor (f .tasks) ks table answers d) ∙ sym asked ∙ busy))
+                ∙ ap (λ (k : ℕ). rounds f ks k here) next
                 ∙ inv .left;
           }
 
       -- no round is left
-      pub playing-ends : n ≤ 0 → here ≡ rounds m r ks limit f₀
+      pub playing-ends : n ≤ 0 → here ≡ rounds f ks limit p₀
       unfolding rounds
       playing-ends none =
           let zeroth : n ≡ 0 = omega arith in
-          ap (λ (k : ℕ). rounds m r ks k here) (sym zeroth) ∙ inv .left
+          ap (λ (k : ℕ). rounds f ks k here) (sym zeroth) ∙ inv .left
 
       -- all is answered
-      pub playing-stops : {b : Bool} → b ≡ answeredAt tasks ks d → b ≡ true → here ≡ rounds m r ks limit f₀
+      pub playing-stops : {b : Bool} → b ≡ answeredAt (f .tasks) ks d → b ≡ true → here ≡ rounds f ks limit p₀
       unfolding rounds
       playing-stops asked done = sym (stop n) ∙ inv .left
         where
-          stop : (k : ℕ) → rounds m r ks k here ≡ here
+          stop : (k : ℕ) → rounds f ks k here ≡ here
           stop zero = refl
-          stop (suc k) = rw (sym (answered-floor tasks ks table answers d) ∙ sym asked ∙ done)
+          stop (suc k) = rw (sym (answered-floor (f .tasks) ks table answers d) ∙ sym asked ∙ done)

@@ -21,6 +21,7 @@ use Rattle.rules.specs.Step.{step}
 use Rattle.task_step.specs.Given.{giveOne, give-one}
 use Rattle.theory.specs.Record.{good-task}
 use Rattle.task_step.specs.Stepping.{Left, stepSays, stepOne, lentOf, step-one}
+use Rattle.frame_rules.specs.declared.First.{First}
 use Rattle.frame_rules.specs.Lines.{keysOf}
 use Rattle.frame_rules.specs.Rounds.{Floor, afterTake, afterStep, turn}
 use Rattle.frame_rounds.specs.declared.turn.Sitting.{Sitting}
@@ -40,11 +41,11 @@ abbrev pub sat : List ℕ → List ℕ → Sitting → Sat
 sat table answers s = record { table = table; answers = answers; sitting = s }
 
 -- a task at rest takes the next key, if there is one
-unfoldable pub takeNext : ℕ → ℕ → List ℕ → Sitting → Sitting
-takeNext m r ks s =
+unfoldable pub takeNext : First → List ℕ → Sitting → Sitting
+takeNext f ks s =
     cond (ltb (s .taken) (length ks))
     (record {
-      task = leftTask (giveOne m r (getD ks (s .taken) 0) (s .task));
+      task = leftTask (giveOne (f .shape) (getD ks (s .taken) 0) (s .task));
       serving = s .taken;
       taken = suc (s .taken);
     })
@@ -60,80 +61,83 @@ seated s t = record { task = t; serving = s .serving; taken = s .taken }
 abbrev pub afterOne : List ℕ → Sitting → Leaves Left → Sat
 afterOne answers s (leaves a l) = sat (l .table) (answered answers (s .serving) (l .task)) (seated s (l .task))
 
-unfoldable pub makeStep : ℕ → ℕ → List ℕ → List ℕ → Sitting → Sat
-makeStep m r table answers s = afterOne answers s (stepOne m r table (s .task))
+unfoldable pub makeStep : First → List ℕ → List ℕ → Sitting → Sat
+makeStep f table answers s = afterOne answers s (stepOne (f .shape) table (s .task))
 
-unfoldable pub turnOne : ℕ → ℕ → List ℕ → List ℕ → List ℕ → Sitting → Sat
-turnOne m r ks table answers s =
-    cond (atRest (s .task)) (sat table answers (takeNext m r ks s)) (makeStep m r table answers s)
+unfoldable pub turnOne : First → List ℕ → List ℕ → List ℕ → Sitting → Sat
+turnOne f ks table answers s =
+    cond (atRest (s .task)) (sat table answers (takeNext f ks s)) (makeStep f table answers s)
 
 -- the task that sits at a place of the floor, and the floor with what its turn leaves
 abbrev pub sittingAt : Floor → ℕ → Sitting
-sittingAt f i = record { task = taskAt (f .tasks) i; serving = getD (f .serving) i 0; taken = f .taken }
+sittingAt p i = record { task = taskAt (p .tasks) i; serving = getD (p .serving) i 0; taken = p .taken }
 
 abbrev pub putBack : Floor → ℕ → Sat → Floor
-putBack f i x =
+putBack p i x =
     record {
       table = x .table;
-      tasks = set (f .tasks) i (x .sitting .task);
-      serving = set (f .serving) i (x .sitting .serving);
+      tasks = set (p .tasks) i (x .sitting .task);
+      serving = set (p .serving) i (x .sitting .serving);
       taken = x .sitting .taken;
       answers = x .answers;
     }
 
-module _ (m r : ℕ) (ks : List ℕ) (i : ℕ) (f : Floor) (here : i < length (f .tasks)) (few : length (f .tasks) ≤ 16) where
-  good : goodTask (f .tasks) i ≡ true
-  good = good-task (f .tasks) i few here
+module _ (f : First) (ks : List ℕ) (i : ℕ) (p : Floor) (here : i < length (p .tasks))
+    (few : length (p .tasks) ≤ 16)
+  where
+    good : goodTask (p .tasks) i ≡ true
+    good = good-task (p .tasks) i few here
 
-  -- a task and a number that stay as they were are put back as they were
-  put-same : f ≡ putBack f i (sat (f .table) (f .answers) (sittingAt f i))
-  put-same = rw (set-getD (f .tasks) i noTask, set-getD (f .serving) i 0)
+    -- a task and a number that stay as they were are put back as they were
+    put-same : p ≡ putBack p i (sat (p .table) (p .answers) (sittingAt p i))
+    put-same = rw (set-getD (p .tasks) i noTask, set-getD (p .serving) i 0)
 
-  took : (x : Leaves Task) →
-      afterTake f i (storedAt (f .tasks) i x)
-      ≡ putBack f i
-      (sat (f .table) (f .answers) (record { task = leftTask x; serving = f .taken; taken = suc (f .taken) }))
-  took (leaves a t) = refl
+    took : (x : Leaves Task) →
+        afterTake p i (storedAt (p .tasks) i x)
+        ≡ putBack p i
+        (sat (p .table) (p .answers) (record { task = leftTask x; serving = p .taken; taken = suc (p .taken) }))
+    took (leaves a t) = refl
 
-  takes : afterTake f i (give m r (getD ks (f .taken) 0) (f .tasks) i)
-      ≡ putBack f i
-      (sat (f .table) (f .answers)
-      (record {
-        task = leftTask (giveOne m r (getD ks (f .taken) 0) (taskAt (f .tasks) i));
-        serving = f .taken;
-        taken = suc (f .taken);
-      }))
-  takes = ap (afterTake f i) (give-one m r (getD ks (f .taken) 0) (f .tasks) i good)
-      ∙ took (giveOne m r (getD ks (f .taken) 0) (taskAt (f .tasks) i))
+    takes : afterTake p i (give (f .shape) (getD ks (p .taken) 0) (p .tasks) i)
+        ≡ putBack p i
+        (sat (p .table) (p .answers)
+        (record {
+          task = leftTask (giveOne (f .shape) (getD ks (p .taken) 0) (taskAt (p .tasks) i));
+          serving = p .taken;
+          taken = suc (p .taken);
+        }))
+    takes = ap (afterTake p i) (give-one (f .shape) (getD ks (p .taken) 0) (p .tasks) i good)
+        ∙ took (giveOne (f .shape) (getD ks (p .taken) 0) (taskAt (p .tasks) i))
 
-  stepped : (x : Leaves Left) →
-      afterStep f i (lentOf (f .tasks) i x) ≡ putBack f i (afterOne (f .answers) (sittingAt f i) x)
-  unfolding answered
-  stepped (leaves a l) = rw (getD-set-same (f .tasks) i (l .task) noTask here, set-getD (f .serving) i 0)
+    stepped : (x : Leaves Left) →
+        afterStep p i (lentOf (p .tasks) i x) ≡ putBack p i (afterOne (p .answers) (sittingAt p i) x)
+    unfolding answered
+    stepped (leaves a l) = rw (getD-set-same (p .tasks) i (l .task) noTask here, set-getD (p .serving) i 0)
 
-  pub turn-one : turn m r ks i f ≡ putBack f i (turnOne m r ks (f .table) (f .answers) (sittingAt f i))
-  unfolding turn turnOne takeNext makeStep
-  turn-one = go (atRest (taskAt (f .tasks) i)) (ltb (f .taken) (length ks))
-    where
-      go : (rest more : Bool) →
-          cond rest
-          (cond more (afterTake f i (give m r (getD ks (f .taken) 0) (f .tasks) i)) f)
-          (afterStep f i (step m r (f .table) (f .tasks) i))
-          ≡ putBack f i
-          (cond rest
-          (sat (f .table) (f .answers)
-          (cond more
-          (record {
-            task = leftTask (giveOne m r (getD ks (f .taken) 0) (taskAt (f .tasks) i));
-            serving = f .taken;
-            taken = suc (f .taken);
-          })
-          (sittingAt f i)))
-          (afterOne (f .answers) (sittingAt f i) (stepOne m r (f .table) (taskAt (f .tasks) i))))
-      go true true = takes
-      go true false = put-same
-      go false more = ap (afterStep f i) (step-one m r (f .table) (f .tasks) i good)
-          ∙ stepped (stepOne m r (f .table) (taskAt (f .tasks) i))
+    pub turn-one : turn f ks i p ≡ putBack p i (turnOne f ks (p .table) (p .answers) (sittingAt p i))
+    unfolding turn turnOne takeNext makeStep
+    turn-one = go (atRest (taskAt (p .tasks) i)) (ltb (p .taken) (length ks))
+      where
+        go : (rest more : Bool) →
+            cond rest
+            (cond more (afterTake p i (give (f .shape) (getD ks (p .taken) 0) (p .tasks) i)) p)
+            (afterStep p i (step (f .shape) (p .table) (p .tasks) i))
+            ≡ putBack p i
+            (cond rest
+            (sat (p .table) (p .answers)
+            (cond more
+            (record {
+              task = leftTask (giveOne (f .shape) (getD ks (p .taken) 0) (taskAt (p .tasks) i));
+              serving = p .taken;
+              taken = suc (p .taken);
+            })
+            (sittingAt p i)))
+            (afterOne (p .answers) (sittingAt p i)
+            (stepOne (f .shape) (p .table) (taskAt (p .tasks) i))))
+        go true true = takes
+        go true false = put-same
+        go false more = ap (afterStep p i) (step-one (f .shape) (p .table) (p .tasks) i good)
+            ∙ stepped (stepOne (f .shape) (p .table) (taskAt (p .tasks) i))
 
 -- a step's turn, and the record kept of it
 pub after-says :
@@ -158,7 +162,7 @@ module _ (answers : List ℕ) (i : ℕ) (t : Task) where
   unfolding answered
   answer-later e = rw (ne-eqb (t .phase) 13 e)
 
-module _ (m r : ℕ) (line : List ℕ) (s : Sitting) where
+module _ (f : First) (line : List ℕ) (s : Sitting) where
   pub next-there : s .taken < length line / 8 → s .taken < length (keysOf line)
   next-there h = omega (arith, keys-count line)
 
@@ -166,35 +170,35 @@ module _ (m r : ℕ) (line : List ℕ) (s : Sitting) where
       (key : ℕ) (x : Turn) (t : Task) →
       s .taken < length line / 8 →
       key ≡ getD (keysOf line) (s .taken) 0 →
-      turnSays (s .task) x ≡ giveOne m r key (s .task) →
+      turnSays (s .task) x ≡ giveOne (f .shape) key (s .task) →
       t ≡ leftTask (turnSays (s .task) x) →
-      record { task = t; serving = s .taken; taken = s .taken + 1 } ≡ takeNext m r (keysOf line) s
+      record { task = t; serving = s .taken; taken = s .taken + 1 } ≡ takeNext f (keysOf line) s
   unfolding takeNext
   take-more key x t more e gave kept =
       rw (lt-ltb (s .taken) (length (keysOf line)) (next-there more), sym e, sym gave, sym kept, add-one (s .taken))
 
-  pub take-none : length line / 8 ≤ s .taken → s ≡ takeNext m r (keysOf line) s
+  pub take-none : length line / 8 ≤ s .taken → s ≡ takeNext f (keysOf line) s
   unfolding takeNext
   take-none done = rw (le-ltb (s .taken) (length (keysOf line)) (omega (arith, keys-count line)))
 
-module _ (m r : ℕ) (table answers : List ℕ) (s : Sitting) where
+module _ (f : First) (table answers : List ℕ) (s : Sitting) where
   pub step-sat :
       (x : Turn) (t : Task) (after answers' : List ℕ) →
-      stepSays (s .task) x after ≡ stepOne m r table (s .task) →
+      stepSays (s .task) x after ≡ stepOne (f .shape) table (s .task) →
       t ≡ leftTask (turnSays (s .task) x) →
       answers' ≡ answered answers (s .serving) t →
-      sat after answers' (seated s t) ≡ makeStep m r table answers s
+      sat after answers' (seated s t) ≡ makeStep f table answers s
   unfolding makeStep
   step-sat x t after answers' e kept wrote =
       rw (wrote, kept) (sym (after-says answers s x after)) ∙ ap (afterOne answers s) e
 
-module _ (m r : ℕ) (ks table answers : List ℕ) (s : Sitting) where
-  pub turn-rest : atRest (s .task) ≡ true → (x : Sitting) → x ≡ takeNext m r ks s →
-      sat table answers x ≡ turnOne m r ks table answers s
+module _ (f : First) (ks table answers : List ℕ) (s : Sitting) where
+  pub turn-rest : atRest (s .task) ≡ true → (x : Sitting) → x ≡ takeNext f ks s →
+      sat table answers x ≡ turnOne f ks table answers s
   unfolding turnOne
   turn-rest e x took = rw (e, took)
 
-  pub turn-steps : atRest (s .task) ≡ false → (x : Sat) → x ≡ makeStep m r table answers s →
-      x ≡ turnOne m r ks table answers s
+  pub turn-steps : atRest (s .task) ≡ false → (x : Sat) → x ≡ makeStep f table answers s →
+      x ≡ turnOne f ks table answers s
   unfolding turnOne
   turn-steps e x made = rw (e, made)

@@ -2,6 +2,7 @@
 // the limit of rounds is met.
 use crate::turn::Sitting;
 use crate::turn::turn;
+use frame_rules::First;
 use rules::Task;
 ghost use mathlib.Core.Path.{_≡_};
 ghost use mathlib.Core.Bool.{true};
@@ -21,11 +22,9 @@ pub struct Desk {
     pub taken: usize,
 }
 
-// One round of n tasks. The desk comes in its parts, since the array's length is known of a parameter.
+// One round of the tasks. The desk comes in its parts, since the array's length is known of a parameter.
 fn round(
-    m: u32,
-    r: u32,
-    n: usize,
+    f: First,
     table: &mut [u8],
     line: &[u8],
     answers: &mut [u8],
@@ -33,19 +32,19 @@ fn round(
     numbers: [usize; 16],
     count: usize,
 ) -> Desk
-    requires { ⌜ n ≤ 16 ⌝ ∗ ⌜ all isDigit (now line) ≡ true ⌝ }
-    ensures { λ d. ⌜ floorOf n (now (table .exit)) (now (answers .exit)) d
-        ≡ spec-round m r (keysOf (now (line .entry)))
-        (floorWith n (now (table .entry)) (now (answers .entry)) seats numbers count) ⌝ }
+    requires { ⌜ f .tasks ≤ 16 ⌝ ∗ ⌜ all isDigit (now line) ≡ true ⌝ }
+    ensures { λ d. ⌜ floorOf (f .tasks) (now (table .exit)) (now (answers .exit)) d
+        ≡ spec-round f (keysOf (now (line .entry)))
+        (floorWith (f .tasks) (now (table .entry)) (now (answers .entry)) seats numbers count) ⌝ }
 {
+    let n = f.tasks as usize;
     let mut tasks = seats;
     let mut serving = numbers;
     let mut taken = count;
     let mut i = 0;
     while i < n {
         let s = turn(
-            m,
-            r,
+            f,
             table,
             line,
             answers,
@@ -90,13 +89,13 @@ fn all_at_rest(tasks: [Task; 16], n: usize) -> bool
 }
 
 // Whether all of the line's keys are answered.
-pub fn all_answered(n: usize, line: &[u8], desk: Desk) -> bool
-    requires { ⌜ n ≤ 16 ⌝ }
-    ensures { λ b. ⌜ b ≡ answeredAt n (keysOf (now (line .entry))) desk ⌝ }
+pub fn all_answered(f: First, line: &[u8], desk: Desk) -> bool
+    requires { ⌜ f .tasks ≤ 16 ⌝ }
+    ensures { λ b. ⌜ b ≡ answeredAt (f .tasks) (keysOf (now (line .entry))) desk ⌝ }
 {
     let tasks = desk.tasks;
     if desk.taken == line.len() / 8 {
-        all_at_rest(tasks, n)
+        all_at_rest(tasks, f.tasks as usize)
     } else {
         false
     }
@@ -104,29 +103,27 @@ pub fn all_answered(n: usize, line: &[u8], desk: Desk) -> bool
 
 // Rounds until all the line's keys are answered, `limit` at most.
 pub fn rounds(
-    m: u32,
-    r: u32,
-    n: usize,
+    f: First,
     limit: u64,
     table: &mut [u8],
     line: &[u8],
     answers: &mut [u8],
     desk: Desk,
 ) -> Desk
-    requires { ⌜ n ≤ 16 ⌝ ∗ ⌜ all isDigit (now line) ≡ true ⌝ }
-    ensures { λ d. ⌜ floorOf n (now (table .exit)) (now (answers .exit)) d
-        ≡ spec-rounds m r (keysOf (now (line .entry))) limit
-        (floorOf n (now (table .entry)) (now (answers .entry)) desk) ⌝ }
+    requires { ⌜ f .tasks ≤ 16 ⌝ ∗ ⌜ all isDigit (now line) ≡ true ⌝ }
+    ensures { λ d. ⌜ floorOf (f .tasks) (now (table .exit)) (now (answers .exit)) d
+        ≡ spec-rounds f (keysOf (now (line .entry))) limit
+        (floorOf (f .tasks) (now (table .entry)) (now (answers .entry)) desk) ⌝ }
 {
     let mut d = desk;
     let mut left = limit;
     while 0 < left {
-        if all_answered(n, line, d) {
+        if all_answered(f, line, d) {
             return d;
         } else {
             let tasks = d.tasks;
             let serving = d.serving;
-            d = round(m, r, n, table, line, answers, tasks, serving, d.taken);
+            d = round(f, table, line, answers, tasks, serving, d.taken);
             left -= 1;
         }
     }

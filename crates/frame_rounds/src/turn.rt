@@ -1,6 +1,7 @@
 // One task's turn (01, The frame program): idle or done it takes the line's next key if there is one, else it makes a
 // step; when it is done, its key is answered.
 use frame_digits::read::number;
+use frame_rules::First;
 use rules::Task;
 use rules::Turn;
 use task_step::give::give;
@@ -41,15 +42,15 @@ pub fn key_at(line: &[u8], i: usize) -> u32
 }
 
 // A task at rest takes the next key, if there is one.
-fn take_next(m: u32, r: u32, line: &[u8], s: Sitting) -> Sitting
+fn take_next(f: First, line: &[u8], s: Sitting) -> Sitting
     requires { ⌜ all isDigit (now line) ≡ true ⌝ }
-    ensures { λ x. ⌜ x ≡ takeNext m r (keysOf (now (line .entry))) s ⌝ }
+    ensures { λ x. ⌜ x ≡ takeNext f (keysOf (now (line .entry))) s ⌝ }
 {
     let i = s.taken;
     if i < line.len() / 8 {
         let key = key_at(line, i);
         Sitting {
-            task: kept(s.task, give(m, r, key, s.task)),
+            task: kept(s.task, give(f.shape.m, f.shape.r, key, s.task)),
             serving: i,
             taken: i + 1,
         }
@@ -70,11 +71,11 @@ fn answer_if(answers: &mut [u8], i: usize, t: Task)
 }
 
 // A step; a task that is then done has answered its key.
-fn make_step(m: u32, r: u32, table: &mut [u8], answers: &mut [u8], s: Sitting) -> Sitting
+fn make_step(f: First, table: &mut [u8], answers: &mut [u8], s: Sitting) -> Sitting
     ensures { λ x. ⌜ sat (now (table .exit)) (now (answers .exit)) x
-        ≡ makeStep m r (now (table .entry)) (now (answers .entry)) s ⌝ }
+        ≡ makeStep f (now (table .entry)) (now (answers .entry)) s ⌝ }
 {
-    let task = kept(s.task, step(m, r, table, s.task));
+    let task = kept(s.task, step(f.shape.m, f.shape.r, table, s.task));
     answer_if(answers, s.serving, task);
     Sitting {
         task: task,
@@ -83,21 +84,14 @@ fn make_step(m: u32, r: u32, table: &mut [u8], answers: &mut [u8], s: Sitting) -
     }
 }
 
-pub fn turn(
-    m: u32,
-    r: u32,
-    table: &mut [u8],
-    line: &[u8],
-    answers: &mut [u8],
-    s: Sitting,
-) -> Sitting
+pub fn turn(f: First, table: &mut [u8], line: &[u8], answers: &mut [u8], s: Sitting) -> Sitting
     requires { ⌜ all isDigit (now line) ≡ true ⌝ }
     ensures { λ x. ⌜ sat (now (table .exit)) (now (answers .exit)) x
-        ≡ turnOne m r (keysOf (now (line .entry))) (now (table .entry)) (now (answers .entry)) s ⌝ }
+        ≡ turnOne f (keysOf (now (line .entry))) (now (table .entry)) (now (answers .entry)) s ⌝ }
 {
     let phase = s.task.phase;
     match phase {
-        0 | 13 => take_next(m, r, line, s),
-        _ => make_step(m, r, table, answers, s),
+        0 | 13 => take_next(f, line, s),
+        _ => make_step(f, table, answers, s),
     }
 }

@@ -34,4 +34,7 @@ tableRead good table = record { good = good; table = table }
 -- a table of another length, or a bad line, changes nothing
 unfoldable pub readTable : Shape → List ℕ → List ℕ → TableRead
 readTable sh line table =
-    cond (goodTable sh (length table) && goodTableLine sh line) (tableRead true (tableOfLine line)) (tableRead false table)
+    cond
+    (goodTable sh (length table) && goodTableLine sh line)
+    (tableRead true (tableOfLine line))
+    (tableRead false table)

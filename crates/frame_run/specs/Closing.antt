@@ -2,16 +2,19 @@
 -- Assumes nothing.
 use Prim.Native.Nat.{ℕ}
 use mathlib.Core.Bool.{Bool, true, cond}
-use mathlib.Core.List.{List}
+use mathlib.Core.List.{List, []}
 use lib.ListN.{length, take}
 use lib.Dec.{leb, eqb}
+use Rattle.rules.specs.Lists.{atFront}
+use Rattle.frame_rules.specs.declared.First.{First}
+use Rattle.frame_rules.specs.declared.FirstLine.{FirstLine}
+use Rattle.frame_rules.specs.declared.FirstLine.the-variants.{Good, Bad}
 use Rattle.frame_rules.specs.declared.Run.{Run}
-use Rattle.frame_rules.specs.Lines.{First}
+use Rattle.frame_rules.specs.declared.Stage.the-variants.{Among, Ended}
 use Rattle.frame_rules.specs.Digits.{digitsOf}
-use Rattle.frame_rules.specs.Frame.{After, after, among, ended, printed, error, lineIn}
-use Rattle.frame_rules.specs.Call.{Came, passedOver, answered, refused}
-use Rattle.frame_rules.specs.Call as call
-use Rattle.frame_rules.specs.Feed.{Buffers, runOf, dayOf, heldLine, atFront}
+use Rattle.frame_rules.specs.Frame.{After, after, printed, error, lineIn}
+use Rattle.frame_rules.specs.Call.{Came, passedOver, answered, ended, refused}
+use Rattle.frame_rules.specs.Feed.{Buffers, runOf, dayOf, heldLine}
 use Rattle.frame_run.specs.declared.close.Closed.{Closed}
 
 -- how much is printed, and the buffer at whose front it stands
@@ -44,22 +47,23 @@ closing a out =
       out = atFront (a .prints) out;
     }
 
--- what the first line said
-abbrev pub firstIs : ℕ → ℕ → ℕ → First
-firstIs m r n = record { m = m; r = r; tasks = n }
+-- ---- what a first line makes of the run, by how it is read; the table it leaves alone
+abbrev pub firstCame : FirstLine → After
+firstCame (Good f) = after (Among f) [] []
+firstCame Bad = after Ended [] error
 
 -- ---- what the call for one line came to, as what the line makes of the run; a refusal is never met
 abbrev pub lineCame : First → Came → List ℕ → List ℕ → After
-lineCame f passedOver slots table = after (among f) table error
-lineCame f (answered n) slots table = after (among f) table (printed (digitsOf (take n slots)))
-lineCame f call.ended slots table = after ended table error
-lineCame f (refused n) slots table = after ended table error
+lineCame f passedOver slots table = after (Among f) table error
+lineCame f (answered n) slots table = after (Among f) table (printed (digitsOf (take n slots)))
+lineCame f ended slots table = after Ended table error
+lineCame f (refused n) slots table = after Ended table error
 
 -- no more answers than slots
 abbrev pub fewAnswers : Came → Bool
 fewAnswers passedOver = true
 fewAnswers (answered n) = leb n 512
-fewAnswers call.ended = true
+fewAnswers ended = true
 fewAnswers (refused n) = true
 
 -- ---- a last line that lacks its line feed; where none is begun, the run stays as it is

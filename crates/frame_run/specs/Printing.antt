@@ -7,20 +7,23 @@ use native.Mathlib.Numerals.{add-one}
 use native.Mathlib.Omega.{arith}
 use lib.ListN.{length, getD, set, take, drop, length-append}
 use lib.Seq.{drop-cons, set-at, length-take-le}
+use Rattle.rules.specs.Lists.{atFront}
+use Rattle.frame_rules.specs.declared.First.{First}
+use Rattle.frame_rules.specs.declared.Stage.{Stage}
 use Rattle.frame_rules.specs.Digits.{digitsOf}
 use Rattle.frame_digits.specs.Print.{digits-length}
 use Rattle.frame_rules.specs.declared.Run.{Run}
-use Rattle.frame_rules.specs.Frame.{Stage, after, printed, error}
-use Rattle.frame_rules.specs.Feed.{runOf, atFront}
+use Rattle.frame_rules.specs.Frame.{after, printed, error}
+use Rattle.frame_rules.specs.Feed.{runOf}
 use Rattle.frame_rules.specs.declared.LineAnswer.{LineAnswer}
-use Rattle.frame_rules.specs.Lines.{First}
 use Rattle.frame_rules.specs.Call.{lineSays}
 use Rattle.frame_run.specs.Closing.{Shown, shown, printing, closed, closing, lineCame}
 
 -- a line feed behind a text that stands at the front
 pub feed-ends :
-    (text out out₁ : List ℕ) (k : ℕ) → out₁ ≡ text ++ drop (length text) out → k ≡ length text → k < length out →
+    (text out out₁ : List ℕ) (k : ℕ) → out₁ ≡ atFront text out → k ≡ length text → k < length out →
     shown (k + 1) (set out₁ k 10) ≡ printing (printed text) out
+unfolding atFront
 feed-ends text out out₁ k stands here room =
     ap₂ shown (ap (λ (n : ℕ). n + 1) here ∙ sym (length-append text (10 ∷ []))) front
   where
@@ -34,8 +37,14 @@ feed-ends text out out₁ k stands here room =
         ∙ sym (append-assoc text (10 ∷ []) (drop (suc (length text)) out))
         ∙ ap (λ (n : ℕ). printed text ++ drop n out) (sym (add-one (length text)) ∙ sym (length-append text (10 ∷ [])))
 
+-- nothing
+pub none-shown : (out : List ℕ) → shown 0 out ≡ printing [] out
+unfolding atFront
+none-shown out = refl
+
 -- EE
 pub error-shown : (out : List ℕ) → 3 ≤ length out → shown 3 (set (set (set out 0 69) 1 69) 2 10) ≡ printing error out
+unfolding atFront
 error-shown [] h = absurd (omega arith)
 error-shown (a ∷ []) h = absurd (omega arith)
 error-shown (a ∷ b ∷ []) h = absurd (omega arith)
@@ -44,12 +53,12 @@ error-shown (a ∷ b ∷ c ∷ out) h = refl
 -- the first n of some answers
 pub answers-shown :
     (answers out out₁ : List ℕ) (n : ℕ) → n ≤ length answers → n ≤ 512 → 1025 ≤ length out →
-    out₁ ≡ digitsOf (take (n - 0) answers) ++ drop (length (digitsOf (take (n - 0) answers))) out →
+    out₁ ≡ atFront (digitsOf (take (n - 0) answers)) out →
     shown (2 * n + 1) (set out₁ (2 * n) 10) ≡ printing (printed (digitsOf (take n answers))) out
 answers-shown answers out out₁ n some few room stands =
     let all : n - 0 ≡ n = omega arith in
     feed-ends (digitsOf (take n answers)) out out₁ (2 * n)
-    (stands ∙ ap (λ (k : ℕ). digitsOf (take k answers) ++ drop (length (digitsOf (take k answers))) out) all)
+    (stands ∙ ap (λ (k : ℕ). atFront (digitsOf (take k answers)) out) all)
     (omega (arith, digits-length (take n answers), length-take-le n answers some))
     (omega arith)
 

@@ -5,12 +5,11 @@ use crate::print::error;
 use crate::print::print_table;
 use frame_rules::Run;
 use frame_rules::Stage;
-use table_words::shape::homes;
-use table_words::shape::shape_of;
+use table_words::shape::places;
 ghost use mathlib.Core.Path.{_≡_};
 ghost use Prim.Native.Nat.{_≤_};
 ghost use lib.ListN.{length};
-ghost use Rattle.frame_rules.specs.Frame.{ended, lineIn, atEnd};
+ghost use Rattle.frame_rules.specs.Frame.{lineIn, atEnd};
 ghost use Rattle.frame_rules.specs.Feed.{lentBuffers, runOf, dayOf, heldLine};
 ghost use Rattle.frame_pieces.specs.Limits.{Fit};
 ghost use Rattle.frame_pieces.specs.Feeding.{InOrder};
@@ -22,15 +21,12 @@ pub struct Closed {
     pub wrote: usize,
 }
 
-// An ended run.
-pub fn run_ended() -> Run
-    ensures { λ run. ⌜ run ≡ runOf ended ⌝ }
+// A run at a stage, with no byte of a line held.
+pub fn run_at(stage: Stage) -> Run
+    ensures { λ run. ⌜ run ≡ runOf stage ⌝ }
 {
     Run {
-        stage: Stage::Ended,
-        m: 0,
-        r: 0,
-        tasks: 0,
+        stage: stage,
         held: 0,
     }
 }
@@ -43,9 +39,9 @@ pub fn close(run: Run, held: usize, line: &[u8], table: &mut [u8], out: &mut [u8
     let stage = run.stage;
     match stage {
         Stage::AtFirst => first_line(held, line, out),
-        Stage::Among => frame_line(run, held, line, table, out),
+        Stage::Among(f) => frame_line(f, held, line, table, out),
         Stage::Ended => Closed {
-            run: run_ended(),
+            run: run_at(Stage::Ended),
             wrote: 0,
         },
     }
@@ -60,9 +56,9 @@ pub fn end(run: Run, table: &[u8], out: &mut [u8]) -> usize
     let stage = run.stage;
     match stage {
         Stage::AtFirst => error(out),
-        Stage::Among => {
-            let places = homes(shape_of(run.m, run.r)) as usize + 2;
-            print_table(&table[0..2 * places], places, out)
+        Stage::Among(f) => {
+            let n = places(f.shape) as usize;
+            print_table(&table[0..2 * n], n, out)
         }
         Stage::Ended => 0,
     }

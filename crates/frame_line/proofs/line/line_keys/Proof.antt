@@ -43,7 +43,7 @@ returns : tie.Need-returns
 returns c =
     let done = c .before .before .before .before .before in
     let asked = done .before .before .before in
-    keys-answered _ _ _ _ _ _ (asked .if1 .taken) _ _ _ (done .play .ensures) (c .if2 .taken)
+    keys-answered _ _ _ _ (asked .if1 .taken) _ _ _ (done .play .ensures) (c .if2 .taken)
 
 same-length-3 : tie.Need-same-length-3
 same-length-3 c = search needs
@@ -55,7 +55,7 @@ returns-2 : tie.Need-returns-2
 returns-2 c =
     let done = c .before .before .before .before .before in
     let asked = done .before .before .before in
-    keys-ended _ _ _ _ _ _ (asked .if1 .taken) _ _ _ (done .play .ensures) (c .if2 .left)
+    keys-ended _ _ _ _ (asked .if1 .taken) _ _ _ (done .play .ensures) (c .if2 .left)
 
 returns-3 : tie.Need-returns-3
 returns-3 c = search (needs, keys-refused)

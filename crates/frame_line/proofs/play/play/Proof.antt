@@ -2,18 +2,15 @@
 -- Assumes nothing.
 use borrow.Author.Needs.{needs}
 use denote.Ref.{now}
-use Rattle.frame_line.specs.Play.{play-is, range-as}
+use Rattle.frame_line.specs.Play.{play-is}
 use Rattle.frame_line.proofs.play.play.Statement.{statement}
 use Rattle.frame_line.proofs.play.play.Tie as tie
 
 clear-requires : tie.Need-clear-requires
 clear-requires c κs = search needs
 
-shape-of-requires : tie.Need-shape-of-requires
-shape-of-requires c κs = search needs
-
 limit-requires : tie.Need-limit-requires
-limit-requires c κs = search (needs, range-as)
+limit-requires c κs = search needs
 
 idle-desk-requires : tie.Need-idle-desk-requires
 idle-desk-requires c κs = search needs
@@ -35,12 +32,10 @@ returns c =
     let ran = c .before .before .before .before .before in
     let idle = ran .before in
     let most = idle .before .before .before in
-    let shape = most .before in
-    let cleared = shape .before .before .before in
+    let cleared = most .before .before .before in
     let start = cleared .before .before .before .before .before in
-    play-is _ _ _ (start .pre .0) _ _ _ _ (now (start .args .answers)) _ _ _ _ _ _ (start .pre .1 .1 .1 .0)
+    play-is _ (start .pre .0) _ _ _ _ (now (start .args .answers)) _ _ _ _ _ (start .pre .1 .1 .1 .0)
     (cleared .clear .ensures)
-    (shape .shape-of .ensures)
     (most .limit .ensures)
     (idle .idle-desk .ensures)
     (ran .rounds .ensures)
@@ -51,7 +46,6 @@ play-spec =
     tie.close
     (tie.spec
     clear-requires
-    shape-of-requires
     limit-requires
     idle-desk-requires
     rounds-requires

@@ -5,6 +5,9 @@ use Rattle.frame_rounds.specs.Desk.{answered-rest, answered-not}
 use Rattle.frame_rounds.proofs.round.all_answered.Statement.{statement}
 use Rattle.frame_rounds.proofs.round.all_answered.Tie as tie
 
+cast-all-at-rest : tie.Need-cast-all-at-rest
+cast-all-at-rest c = search needs
+
 all-at-rest-requires : tie.Need-all-at-rest-requires
 all-at-rest-requires c κs = search needs
 
@@ -15,4 +18,4 @@ returns-2 : tie.Need-returns-2
 returns-2 c = search (needs, answered-not)
 
 pub all-answered-spec : {M : Type 1} → statement M
-all-answered-spec = tie.close (tie.spec all-at-rest-requires returns returns-2)
+all-answered-spec = tie.close (tie.spec cast-all-at-rest all-at-rest-requires returns returns-2)

@@ -8,26 +8,30 @@ use Rattle.frame_rounds.proofs.round.round.Statement.{statement}
 use Rattle.frame_rounds.proofs.round.round.Tie as tie
 
 abbrev Inv-loop : tie.InvT-loop
-Inv-loop m r n table₀ line answers₀ count tasks₀ holds₀ taken₀ i₀ table answers tasks holds taken i =
-    Turning m r (keysOf line) n (floorWith n table₀ answers₀ tasks₀ holds₀ taken₀) table answers tasks holds taken i
+Inv-loop f table₀ line answers₀ count n tasks₀ holds₀ taken₀ i₀ table answers tasks holds taken i =
+    Turning f (keysOf line) (floorWith (f .tasks) table₀ answers₀ tasks₀ holds₀ taken₀) table answers tasks holds
+    taken i
 
 abbrev μ-loop : tie.MeasureT-loop
-μ-loop m r n table₀ line answers₀ count tasks₀ holds₀ taken₀ i₀ table answers tasks holds taken i = n - i
+μ-loop f table₀ line answers₀ count n tasks₀ holds₀ taken₀ i₀ table answers tasks holds taken i = n - i
+
+cast-n : tie.Need-cast-n Inv-loop μ-loop
+cast-n c = search needs
 
 loop-holds : tie.Need-loop-holds Inv-loop μ-loop
 loop-holds c = search (needs, turning-begins)
 
-mul-t22 : tie.Need-mul-t22 Inv-loop μ-loop
-mul-t22 c = search needs
+mul-t21 : tie.Need-mul-t21 Inv-loop μ-loop
+mul-t21 c = search needs
 
-array-copy-out-t25 : tie.Need-array-copy-out-t25 Inv-loop μ-loop
-array-copy-out-t25 c = search needs
+array-copy-out-t24 : tie.Need-array-copy-out-t24 Inv-loop μ-loop
+array-copy-out-t24 c = search needs
 
-mul-t26 : tie.Need-mul-t26 Inv-loop μ-loop
-mul-t26 c = search needs
+mul-t25 : tie.Need-mul-t25 Inv-loop μ-loop
+mul-t25 c = search needs
 
-array-read-t29 : tie.Need-array-read-t29 Inv-loop μ-loop
-array-read-t29 c = search needs
+array-read-t28 : tie.Need-array-read-t28 Inv-loop μ-loop
+array-read-t28 c = search needs
 
 turn-requires : tie.Need-turn-requires Inv-loop μ-loop
 turn-requires c κs = search needs
@@ -68,11 +72,12 @@ round-spec =
     (tie.spec
     Inv-loop
     μ-loop
+    cast-n
     loop-holds
-    mul-t22
-    array-copy-out-t25
-    mul-t26
-    array-read-t29
+    mul-t21
+    array-copy-out-t24
+    mul-t25
+    array-read-t28
     turn-requires
     mul-tasks
     array-set-from-tasks

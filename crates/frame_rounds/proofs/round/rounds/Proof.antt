@@ -7,11 +7,11 @@ use Rattle.frame_rounds.proofs.round.rounds.Statement.{statement}
 use Rattle.frame_rounds.proofs.round.rounds.Tie as tie
 
 abbrev Inv-loop : tie.InvT-loop
-Inv-loop m r n limit table₀ line answers₀ d₀ left₀ table answers d left =
-    Playing m r (keysOf line) n limit (floorOf n table₀ answers₀ d₀) table answers d left
+Inv-loop f limit table₀ line answers₀ d₀ left₀ table answers d left =
+    Playing f (keysOf line) limit (floorOf (f .tasks) table₀ answers₀ d₀) table answers d left
 
 abbrev μ-loop : tie.MeasureT-loop
-μ-loop m r n limit table₀ line answers₀ d₀ left₀ table answers d left = left
+μ-loop f limit table₀ line answers₀ d₀ left₀ table answers d left = left
 
 loop-holds : tie.Need-loop-holds Inv-loop μ-loop
 loop-holds c = search (needs, playing-begins)

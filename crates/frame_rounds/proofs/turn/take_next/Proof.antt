@@ -14,8 +14,8 @@ give-requires c κs = search needs
 kept-requires : tie.Need-kept-requires
 kept-requires c κs = search needs
 
-add-t13 : tie.Need-add-t13
-add-t13 c = search needs
+add-t12 : tie.Need-add-t12
+add-t12 c = search needs
 
 returns : tie.Need-returns
 returns c = search (needs, take-more)
@@ -25,4 +25,4 @@ returns-2 c = search (needs, take-none)
 
 pub take-next-spec : {M : Type 1} → statement M
 take-next-spec =
-    tie.close (tie.spec key-at-requires give-requires kept-requires add-t13 returns returns-2)
+    tie.close (tie.spec key-at-requires give-requires kept-requires add-t12 returns returns-2)

@@ -3,7 +3,7 @@
 use borrow.Author.Needs.{needs}
 use native.Mathlib.Omega.{arith}
 use denote.Ref.{now}
-use Rattle.frame_run.specs.Framing.{first-in, frame-in, ended-in, among-limits, day-size}
+use Rattle.frame_run.specs.Framing.{first-in, frame-in, ended-in, among-limits}
 use Rattle.frame_run.proofs.close.close.Statement.{statement}
 use Rattle.frame_run.proofs.close.close.Tie as tie
 
@@ -13,22 +13,23 @@ enum-told c = search needs
 first-line-requires : tie.Need-first-line-requires
 first-line-requires c κs = search needs
 
-enum-told-2 : tie.Need-enum-told-2
-enum-told-2 c = search needs
+enum-known-stage : tie.Need-enum-known-stage
+enum-known-stage c = search needs
 
 frame-line-requires : tie.Need-frame-line-requires
 frame-line-requires c κs =
-    let start = c .before .before .before .before .before .before .before in
+    let told = c .before .before .before in
+    let start = told .before .before .before .before .before in
     let day = start .pre .day in (
-      among-limits (start .args .run) (now (start .args .table)) day (c .before .before .enum-told2 .given .1),
-      (day-size (start .args .run) (now (start .args .table)) day, (start .pre .line, omega (arith, start .pre .out))),
+      among-limits (start .args .run) (now (start .args .table)) day _ (told .stage .given .1),
+      (day .table, (start .pre .line, omega (arith, start .pre .out))),
     )
 
-enum-told-3 : tie.Need-enum-told-3
-enum-told-3 c = search needs
+enum-told-2 : tie.Need-enum-told-2
+enum-told-2 c = search needs
 
-run-ended-requires : tie.Need-run-ended-requires
-run-ended-requires c κs = search needs
+run-at-requires : tie.Need-run-at-requires
+run-at-requires c κs = search needs
 
 same-length : tie.Need-same-length
 same-length c = search needs
@@ -47,16 +48,16 @@ same-length-3 c = search needs
 
 returns-2 : tie.Need-returns-2
 returns-2 c =
-    let start = c .before .before .before .before .before .before .before .before .before .before .before .before in
-    frame-in (start .args .run) (now (start .args .table)) _ (now (start .args .out))
-    (c .before .before .before .before .before .before .before .enum-told2 .given .1) _
+    let told = c .before .before .before .before .before .before .before .before in
+    let start = told .before .before .before .before .before in
+    frame-in (start .args .run) (now (start .args .table)) _ (now (start .args .out)) _ (told .stage .given .1) _
     (c .before .before .before .before .frame-line .ensures)
 
 returns-3 : tie.Need-returns-3
 returns-3 c =
     let start = c .before .before .before .before .before .before in
     ended-in (start .args .run) (now (start .args .table)) _ (now (start .args .out))
-    (c .before .enum-told3 .given .1) _ (c .run-ended .ensures)
+    (c .before .enum-told2 .given .1) _ (c .run-at .ensures)
 
 pub close-spec : {M : Type 1} → statement M
 close-spec =
@@ -64,10 +65,10 @@ close-spec =
     (tie.spec
     enum-told
     first-line-requires
-    enum-told-2
+    enum-known-stage
     frame-line-requires
-    enum-told-3
-    run-ended-requires
+    enum-told-2
+    run-at-requires
     same-length
     returns
     same-length-2

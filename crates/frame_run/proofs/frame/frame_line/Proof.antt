@@ -2,10 +2,10 @@
 -- Assumes nothing.
 use borrow.Author.Needs.{needs}
 use denote.Ref.{now}
-use Rattle.frame_rules.specs.Frame.{among, error}
-use Rattle.frame_rules.specs.Feed.{firstIn}
+use Rattle.frame_rules.specs.declared.Stage.the-variants.{Among}
+use Rattle.frame_rules.specs.Frame.{error}
 use Rattle.frame_run.specs.Printing.{closed-as}
-use Rattle.frame_run.specs.Framing.{held-whole, held-long}
+use Rattle.frame_run.specs.Framing.{frame-whole, frame-long}
 use Rattle.frame_run.proofs.frame.frame_line.Statement.{statement}
 use Rattle.frame_run.proofs.frame.frame_line.Tie as tie
 
@@ -28,13 +28,13 @@ same-length-2 : tie.Need-same-length-2
 same-length-2 c = search needs
 
 returns : tie.Need-returns
-returns c = search (needs, held-whole)
+returns c = search (needs, frame-whole)
 
 error-requires : tie.Need-error-requires
 error-requires c κs = search needs
 
-run-among-requires : tie.Need-run-among-requires
-run-among-requires c κs = search needs
+run-at-requires : tie.Need-run-at-requires
+run-at-requires c κs = search needs
 
 same-length-3 : tie.Need-same-length-3
 same-length-3 c = search needs
@@ -42,9 +42,9 @@ same-length-3 c = search needs
 returns-2 : tie.Need-returns-2
 returns-2 c =
     let start = c .before .before .before .before .before .before .before .before .before in
-    held-long _ _ _ _ _ _ (c .before .before .before .before .before .if1 .left)
-    (closed-as _ _ (now (start .args .table)) (now (start .args .out)) _ (among (firstIn (start .args .run))) error
-    (c .run-among .ensures) (c .before .before .before .error .ensures))
+    frame-long _ _ _ _ _ _ (c .before .before .before .before .before .if1 .left)
+    (closed-as _ _ (now (start .args .table)) (now (start .args .out)) _ (Among (start .args .f)) error
+    (c .run-at .ensures) (c .before .before .before .error .ensures))
 
 pub frame-line-spec : {M : Type 1} → statement M
 frame-line-spec =
@@ -58,6 +58,6 @@ frame-line-spec =
     same-length-2
     returns
     error-requires
-    run-among-requires
+    run-at-requires
     same-length-3
     returns-2)

@@ -7,10 +7,10 @@ use denote.Ref.{now}
 use lib.ListN.{take}
 use borrow.Author.Tests.{leb-true}
 use Rattle.frame_rules.specs.declared.LineAnswer.{LineAnswer}
+use Rattle.frame_rules.specs.declared.Stage.the-variants.{Among, Ended}
 use Rattle.frame_rules.specs.Digits.{digitsOf}
-use Rattle.frame_rules.specs.Frame.{among, ended, printed, error}
+use Rattle.frame_rules.specs.Frame.{printed, error}
 use Rattle.frame_rules.specs.Call.{lineSays}
-use Rattle.frame_rules.specs.Feed.{firstIn}
 use Rattle.frame_run.specs.Closing.{fewAnswers}
 use Rattle.frame_run.specs.Printing.{closed-as, came-as}
 use Rattle.frame_run.proofs.frame.print_line.Statement.{statement}
@@ -22,8 +22,8 @@ enum-told c = search needs
 error-requires : tie.Need-error-requires
 error-requires c κs = search needs
 
-run-among-requires : tie.Need-run-among-requires
-run-among-requires c κs = search needs
+run-at-requires : tie.Need-run-at-requires
+run-at-requires c κs = search needs
 
 same-length : tie.Need-same-length
 same-length c = search needs
@@ -31,8 +31,8 @@ same-length c = search needs
 returns : tie.Need-returns
 returns c =
     let start = c .before .before .before .before .before .before .before .before in
-    closed-as _ _ [] (now (start .args .out)) _ (among (firstIn (start .args .run))) error
-    (c .run-among .ensures) (c .before .before .before .error .ensures)
+    closed-as _ _ [] (now (start .args .out)) _ (Among (start .args .f)) error
+    (c .run-at .ensures) (c .before .before .before .error .ensures)
     ∙ came-as _ _ _ _ _ (c .before .before .before .before .before .enum-told .given .1)
 
 enum-known-answer : tie.Need-enum-known-answer
@@ -46,8 +46,8 @@ print-answers-requires c κs =
       start .pre .1,
     )
 
-run-among-requires-2 : tie.Need-run-among-requires-2
-run-among-requires-2 c κs = search needs
+run-at-requires-2 : tie.Need-run-at-requires-2
+run-at-requires-2 c κs = search needs
 
 same-length-2 : tie.Need-same-length-2
 same-length-2 c = search needs
@@ -56,10 +56,10 @@ returns-2 : tie.Need-returns-2
 returns-2 c =
     let start = c .before .before .before .before .before .before .before .before .before in
     let told = c .before .before .before .before .before .before .answer .given .1 in
-    closed-as _ _ [] (now (start .args .out)) _ (among (firstIn (start .args .run)))
+    closed-as _ _ [] (now (start .args .out)) _ (Among (start .args .f))
     (printed
     (digitsOf (take (c .before .before .before .before .before .before .answer .given .0 .0) (start .args .slots))))
-    (c .run-among2 .ensures) (c .before .before .before .print-answers .ensures)
+    (c .run-at2 .ensures) (c .before .before .before .print-answers .ensures)
     ∙ came-as _ _ _ _ _ told
 
 enum-told-2 : tie.Need-enum-told-2
@@ -68,8 +68,8 @@ enum-told-2 c = search needs
 error-requires-2 : tie.Need-error-requires-2
 error-requires-2 c κs = search needs
 
-run-ended-requires : tie.Need-run-ended-requires
-run-ended-requires c κs = search needs
+run-at-requires-3 : tie.Need-run-at-requires-3
+run-at-requires-3 c κs = search needs
 
 same-length-3 : tie.Need-same-length-3
 same-length-3 c = search needs
@@ -77,8 +77,8 @@ same-length-3 c = search needs
 returns-3 : tie.Need-returns-3
 returns-3 c =
     let start = c .before .before .before .before .before .before .before .before in
-    closed-as _ _ [] (now (start .args .out)) _ ended error
-    (c .run-ended .ensures) (c .before .before .before .error2 .ensures)
+    closed-as _ _ [] (now (start .args .out)) _ Ended error
+    (c .run-at3 .ensures) (c .before .before .before .error2 .ensures)
     ∙ came-as _ _ _ _ _ (c .before .before .before .before .before .enum-told2 .given .1)
 
 enum-told-3 : tie.Need-enum-told-3
@@ -87,8 +87,8 @@ enum-told-3 c = search needs
 error-requires-3 : tie.Need-error-requires-3
 error-requires-3 c κs = search needs
 
-run-ended-requires-2 : tie.Need-run-ended-requires-2
-run-ended-requires-2 c κs = search needs
+run-at-requires-4 : tie.Need-run-at-requires-4
+run-at-requires-4 c κs = search needs
 
 same-length-4 : tie.Need-same-length-4
 same-length-4 c = search needs
@@ -96,8 +96,8 @@ same-length-4 c = search needs
 returns-4 : tie.Need-returns-4
 returns-4 c =
     let start = c .before .before .before .before .before .before .before .before in
-    closed-as _ _ [] (now (start .args .out)) _ ended error
-    (c .run-ended2 .ensures) (c .before .before .before .error3 .ensures)
+    closed-as _ _ [] (now (start .args .out)) _ Ended error
+    (c .run-at4 .ensures) (c .before .before .before .error3 .ensures)
     ∙ came-as _ _ _ _ _ (c .before .before .before .before .before .enum-told3 .given .1)
 
 pub print-line-spec : {M : Type 1} → statement M
@@ -106,21 +106,21 @@ print-line-spec =
     (tie.spec
     enum-told
     error-requires
-    run-among-requires
+    run-at-requires
     same-length
     returns
     enum-known-answer
     print-answers-requires
-    run-among-requires-2
+    run-at-requires-2
     same-length-2
     returns-2
     enum-told-2
     error-requires-2
-    run-ended-requires
+    run-at-requires-3
     same-length-3
     returns-3
     enum-told-3
     error-requires-3
-    run-ended-requires-2
+    run-at-requires-4
     same-length-4
     returns-4)
