@@ -1,7 +1,7 @@
 -- Digits read. `digitOr`: what a byte is worth as a digit, with a law for each range of the code; `Reading`:
 -- the invariant of a number read digit by digit, with its laws; `number-low`: how large a number is.
 -- Assumes nothing.
-use Prim.Native.Nat.{ℕ, _+_, _*_, _-_, _^_, _≤_, _<_}
+use Prim.Native.Nat.{ℕ, zero, suc, _+_, _*_, _-_, _^_, _≤_, _<_}
 use mathlib.Core.Path.{_≡_, refl, _∙_}
 use mathlib.Core.Bool.{Bool, true, false, cond}
 use mathlib.Core.List.{List}
@@ -183,15 +183,15 @@ module _ (s : List ℕ) (at n : ℕ)
 
     -- ---- n digits write a number below 16^n
     record SoFar (j : ℕ) : Type 0 where
-      pub says : ℕ
-      pub reading : Reading part n says j
+      pub worthSoFar : ℕ
+      pub reading : Reading part n worthSoFar j
 
     so-far : (j : ℕ) → j ≤ n → SoFar j
-    so-far zero h = record { says = 0; reading = reading-begins }
+    so-far zero h = record { worthSoFar = 0; reading = reading-begins }
     so-far (suc j) h =
         let r = so-far j (omega arith) in
         record {
-          says = 16 * r .says + digitOr (getD s (at + j) 0);
+          worthSoFar = 16 * r .worthSoFar + digitOr (getD s (at + j) 0);
           reading = rw (← add-one j) (reading-on (r .reading) (omega arith) (digitOr (getD s (at + j) 0)) refl);
         }
 

@@ -17,7 +17,7 @@ use Rattle.rules.specs.declared.Done.the-variants as done
 use Rattle.rules.specs.Answer.{numberOfRefusal, doneSays}
 use Rattle.frame_rules.specs.declared.Run.{Run}
 use Rattle.frame_rules.specs.Frame.{Day, After, lineIn, atEnd}
-use Rattle.frame_rules.specs.Feed.{Buffers, lentBuffers, dayOf, heldLine, atFront, refusal, Finishing, finishes}
+use Rattle.frame_rules.specs.Feed.{Buffers, lentBuffers, dayOf, heldLine, refusal, Finishing, finishes}
 use Rattle.frame_rules.specs.Feed.{refusedToo, lastLine, finishGood, finish}
 use Rattle.frame_pieces.specs.Limits.{Fit}
 use Rattle.frame_pieces.specs.Feeding as feeding

@@ -18,7 +18,8 @@ use Rattle.frame_rules.specs.Lines.{tasksInLimits, keysOf, goodLine}
 use Rattle.frame_rules.specs.Rounds.{play}
 use Rattle.frame_rules.specs.Call.{Line, answered, ended, refused, passedOver, leftAlone, played, line}
 use Rattle.table_words.specs.Range.{InRange, good-table}
-use Rattle.frame_pieces.specs.Limits.{between, keys-count}
+use Rattle.table_words.specs.Tests.{between}
+use Rattle.frame_pieces.specs.Limits.{keys-count}
 use Rattle.frame_line.specs.Play.{Ran, ran, ranOf, lineKeys}
 
 module _ (sh : Shape) (text : List ℕ) (d : Bool) (asked : d ≡ all isDigit text) where

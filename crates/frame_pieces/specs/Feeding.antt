@@ -18,7 +18,7 @@ use Rattle.frame_rules.specs.Lines.{inLimits, shapeInLimits, tasksInLimits}
 use Rattle.frame_rules.specs.Frame as frame
 use Rattle.frame_rules.specs.Frame.{Day, After, lineIn, atEnd}
 use Rattle.frame_rules.specs.Feed.{Buffers, lentBuffers, dayOf, runOf, withHeld, refusal, lineLength, heldAfter}
-use Rattle.frame_rules.specs.Feed.{lineAfter, heldLine, atFront, Feeding, feeds, heldOrClosed, feedGood, feed, finishes}
+use Rattle.frame_rules.specs.Feed.{lineAfter, heldLine, Feeding, feeds, heldOrClosed, feedGood, feed, finishes}
 use Rattle.frame_rules.specs.Feed.{lastLine, finishGood, finish, goodShapeAt, goodTasksAt}
 use Rattle.frame_pieces.specs.Limits.{inStage, Fit, line-fits, line-prints, end-prints}
 use Rattle.frame_pieces.specs.Reading.{fromHere, line-length-le, goes-on, line-ends, nothing-left, rest-is-line}

@@ -16,11 +16,12 @@ use Rattle.rules.specs.Bytes.{wordsOf, bytesOf}
 use Rattle.rules.specs.Shape.{shapeOf, inRange, homes, remainders, keys, places, rightGuard, fitsLength, goodTable}
 use Rattle.rules.specs.Entry.{placeOfHome, homeOfPlace, homeOf, remainderOf, split, sameHome, sameEntry, precedes}
 use Rattle.rules.specs.Table.{endsInChange, rising, soundRun, virginPlaces, deal, entriesBetween, guardsVoid}
+use Rattle.rules.specs.Room.{whichEnd}
 use Rattle.rules.specs.Lay.{holds, smaller, markOf}
 use Rattle.rules.specs.Record.{homePlaceOf, busy, atRest, fitsHand, fitsBusy, fits, goodTask}
-use Rattle.rules.specs.Phase.{home, lookLeft, lookRight, lockLeft, lockRight, backOff, readable, handOf, goalOf}
-use Rattle.rules.specs.Phase.{readEntries, read, movesOn, fillHand, neighbour, exchange, move, setChange, setVirgin}
-use Rattle.rules.specs.Phase.{marked, mark, freeLeft, freeRight}
+use Rattle.rules.specs.Phase.{home, lookLeft, lookRight, lockLeft, lockRight, backOff, readable, readEntries, read}
+use Rattle.rules.specs.Phase.{movesOn, fillHand, neighbour, exchange, move, setChange, setVirgin, marked, mark}
+use Rattle.rules.specs.Phase.{freeLeft, freeRight}
 use Rattle.rules.specs.Step.{ofPhase, stepOf, step}
 use Rattle.rules.specs.Give.{given, giveTo, give}
 use Rattle.frame_rules.specs.Digits.{isDigit, worth, numberAfter, number, glyph, digitsOf, wordDigits}
@@ -98,7 +99,7 @@ pub rows-hold : map (λ (r : Row). output (r .input)) rows ≡ map (λ (r : Row)
 unfolding count all any wordOf numberOf isVoid isZero isLock wordsOf bytesOf inRange homes remainders keys places
     rightGuard fitsLength goodTable placeOfHome homeOfPlace homeOf remainderOf split sameHome sameEntry precedes
     endsInChange rising soundRun virginPlaces deal entriesBetween guardsVoid holds homePlaceOf busy atRest fitsHand
-    fitsBusy fits home lookLeft lookRight lockLeft lockRight backOff readable smaller markOf handOf goalOf
+    fitsBusy fits home lookLeft lookRight lockLeft lockRight backOff readable smaller markOf whichEnd
     readEntries read movesOn fillHand neighbour exchange move setChange setVirgin marked mark freeLeft freeRight
     ofPhase stepOf step given goodTask giveTo give isDigit worth numberAfter number glyph digitsOf wordDigits
     linesAfter linesOf firstOf shapeInLimits tasksInLimits inLimits goodFirst firstKeys keysOf goodLine start turn

@@ -19,9 +19,8 @@ use Rattle.frame_rules.specs.declared.Stage.the-variants.{AtFirst, Among, Ended
 use Rattle.frame_rules.specs.Digits.{digitsOf}
 use Rattle.frame_rules.specs.Lines.{firstOf, goodFirst, shapeInLimits, tasksInLimits, inLimits, keysOf, goodLine}
 use Rattle.frame_rules.specs.Rounds.{Floor, allAnswered, play}
-use Rattle.frame_rules.specs.Frame.{After, after, ended, used, printed, error, firstLine, playedLine, frameLine, lineIn}
+use Rattle.frame_rules.specs.Frame.{After, after, used, printed, error, firstLine, playedLine, frameLine, lineIn}
 use Rattle.frame_rules.specs.Call.{Came, passedOver, answered, refused, Line, leftAlone, played, line, ended}
-use Rattle.frame_rules.specs.Call as call
 use Rattle.frame_rules.specs.Feed.{runOf, dayOf, heldLine}
 use Rattle.table_words.specs.Range.{InRange, range-in}
 use Rattle.frame_pieces.specs.Sizes.{play-answers}
