@@ -17,8 +17,8 @@ use Rattle.frame_rules.specs.declared.Stage.the-variants.{AtFirst, Among, Ended
 use Rattle.frame_rules.specs.Lines.{shapeInLimits, tasksInLimits, inLimits}
 use Rattle.frame_rules.specs.Frame.{Day, After, lineIn, atEnd}
 use Rattle.frame_rules.specs.Feed.{Buffers, lentBuffers, dayOf, runOf, withHeld, goodShapeAt, goodTasksAt, refusal}
-use Rattle.frame_rules.specs.Feed.{lineLength, heldAfter, lineAfter, heldLine, Feeding, feeds, heldOrClosed, feedGood, feed}
-use Rattle.frame_rules.specs.Feed.{finishes, lastLine, finishGood, finish}
+use Rattle.frame_rules.specs.Feed.{lineLength, heldAfter, lineAfter, heldLine, Feeding, feeds, heldOrClosed, feedGood}
+use Rattle.frame_rules.specs.Feed.{feed, finishes, lastLine, finishGood, finish}
 use Rattle.frame_pieces.specs.Limits.{inStage, Fit, line-fits, line-prints, end-prints}
 use Rattle.frame_pieces.specs.Reading.{fromHere, line-length-le, goes-on, line-ends, nothing-left, rest-is-line}
 use Rattle.frame_pieces.specs.Held.{Held, whole, tooLong, none-held, line-length, held-more, held-line}
