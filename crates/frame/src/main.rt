@@ -1,5 +1,5 @@
 // The frame program (01): reads standard input to its end and writes standard output. What it prints is the crate
-// `frames`'; here are only the reads, the writes and the buffers.
+// frame_feed's; here are only the reads, the writes and the buffers.
 use frame_feed::feed::begin;
 use frame_feed::feed::feed;
 use frame_feed::finish::finish;

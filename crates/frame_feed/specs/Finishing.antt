@@ -15,13 +15,14 @@ use Rattle.rules.specs.declared.Refusal.{Refusal}
 use Rattle.rules.specs.declared.Done.{Done}
 use Rattle.rules.specs.declared.Done.the-variants as done
 use Rattle.rules.specs.Answer.{numberOfRefusal, doneSays}
+use Rattle.rules.specs.Lists.{atFront}
 use Rattle.frame_rules.specs.declared.Run.{Run}
 use Rattle.frame_rules.specs.Frame.{Day, After, lineIn, atEnd}
-use Rattle.frame_rules.specs.Feed.{Buffers, lentBuffers, dayOf, heldLine, refusal, Finishing, finishes}
-use Rattle.frame_rules.specs.Feed.{refusedToo, lastLine, finishGood, finish}
+use Rattle.frame_rules.specs.Feed.{Buffers, lentBuffers, dayOf, heldLine, refusal, Finishing, finishes, refusedToo}
+use Rattle.frame_rules.specs.Feed.{lastLine, finishGood, finish}
 use Rattle.frame_pieces.specs.Limits.{Fit}
 use Rattle.frame_pieces.specs.Feeding as feeding
-use Rattle.frame_pieces.specs.Feeding.{InOrder, accepted, run-day, last-fits, last-line-prints}
+use Rattle.frame_pieces.specs.Feeding.{InOrder, accepted, last-fits, last-line-prints}
 use Rattle.frame_run.specs.declared.close.Closed.{Closed}
 use Rattle.frame_buffers.specs.Check.{refusalBy, refusal-by, some-number}
 use Rattle.frame_run.specs.Closing.{Shown, shown, printing, Closing, closed, closing, lastClosing}
@@ -55,6 +56,7 @@ two-texts :
     (a ++ drop n out)
     (atFront t (take (length (a ++ drop n out) - n) (drop n (a ++ drop n out))))
     ≡ atFront (a ++ t) out
+unfolding atFront
 two-texts a t out n long =
     rw (
       take-at a (drop n out) n long,
@@ -82,7 +84,7 @@ module _ (run : Run) (b : Buffers) (ok : InOrder run b) where
   text = heldLine (run .held) (b .line)
 
   last-is : Last (lastClosing run b) (lastLine run b) (b .out)
-  unfolding lastClosing lastLine dayOf
+  unfolding lastClosing lastLine atFront
   last-is = go (eqb (run .held) 0)
     where
       go :
@@ -94,7 +96,7 @@ module _ (run : Run) (b : Buffers) (ok : InOrder run b) where
           (cond none (record { day = day; prints = [] }) (lineIn day text))
           (b .out)
       go true = record { day = refl; table = refl; wrote = refl; out = refl }
-      go false = record { day = run-day (lineIn day text .day); table = refl; wrote = refl; out = refl }
+      go false = record { day = refl; table = refl; wrote = refl; out = refl }
 
   -- ---- the table's line goes into the room behind
   module _ (c : Closed) (table out : List ℕ) (e : closed c table out ≡ lastClosing run b) where
@@ -102,6 +104,7 @@ module _ (run : Run) (b : Buffers) (ok : InOrder run b) where
     left = subst (λ (x : Closing). Last x (lastLine run b) (b .out)) (sym e) last-is
 
     room : (c .wrote ≤ 1025) × (66570 ≤ length out)
+    unfolding atFront
     room =
         let l = left in
         let prints = lastLine run b .prints in
@@ -138,7 +141,7 @@ module _ (run : Run) (b : Buffers) (ok : InOrder run b) where
         ≡ printing (atEnd (dayOf (c .run) table)) (take (length out - c .wrote) (drop (c .wrote) out)) →
         finishes (c .wrote + more) (lentBuffers (b .line) table (putMid (c .wrote) (length out - c .wrote) out part))
         ≡ finishGood b (lastLine run b)
-    unfolding finishGood
+    unfolding finishGood atFront
     finish-both more part end =
         let l = left in
         let a = lastLine run b in

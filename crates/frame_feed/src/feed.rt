@@ -6,25 +6,20 @@ use frame_rules::FeedAnswer;
 use frame_rules::Run;
 use frame_rules::Stage;
 use frame_run::close::close;
+use frame_run::close::run_at;
 use rules::Done;
 ghost use mathlib.Core.Path.{_≡_};
 ghost use Prim.Native.Nat.{min};
 ghost use lib.ListN.{drop};
-ghost use Rattle.frame_rules.specs.Frame.{atFirst};
+ghost use Rattle.frame_rules.specs.declared.Stage.the-variants.{AtFirst};
 ghost use Rattle.frame_rules.specs.Feed.{lentBuffers, runOf, withHeld, fedSays, feedGood, feed as spec-feed};
 ghost use Rattle.frame_pieces.specs.Feeding.{InOrder};
 
 // A run at its first line, with nothing held. The table that is lent to it starts as 32,772 zero bytes.
 pub fn begin() -> Run
-    ensures { λ run. ⌜ run ≡ runOf atFirst ⌝ }
+    ensures { λ run. ⌜ run ≡ runOf AtFirst ⌝ }
 {
-    Run {
-        stage: Stage::AtFirst,
-        m: 0,
-        r: 0,
-        tasks: 0,
-        held: 0,
-    }
+    run_at(Stage::AtFirst)
 }
 
 // The run with so many bytes of a line held.
@@ -34,9 +29,6 @@ fn with_held(run: Run, held: usize) -> Run
     let stage = run.stage;
     Run {
         stage: stage,
-        m: run.m,
-        r: run.r,
-        tasks: run.tasks,
         held: held,
     }
 }

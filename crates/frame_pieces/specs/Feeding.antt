@@ -15,7 +15,6 @@ use Rattle.frame_rules.specs.declared.Run.{Run}
 use Rattle.frame_rules.specs.declared.Stage.{Stage}
 use Rattle.frame_rules.specs.declared.Stage.the-variants.{AtFirst, Among, Ended}
 use Rattle.frame_rules.specs.Lines.{inLimits, shapeInLimits, tasksInLimits}
-use Rattle.frame_rules.specs.Frame as frame
 use Rattle.frame_rules.specs.Frame.{Day, After, lineIn, atEnd}
 use Rattle.frame_rules.specs.Feed.{Buffers, lentBuffers, dayOf, runOf, withHeld, refusal, lineLength, heldAfter}
 use Rattle.frame_rules.specs.Feed.{lineAfter, heldLine, Feeding, feeds, heldOrClosed, feedGood, feed, finishes}

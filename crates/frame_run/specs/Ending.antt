@@ -1,11 +1,11 @@
 -- The end of the input, as the code prints it. `table-printed`: the table's line; `end-..`: what each stage prints.
 -- Assumes nothing.
 use Prim.Native.Nat.{ℕ, _+_, _*_, _-_, _≤_}
-use mathlib.Core.Path.{_≡_, sym, _∙_, subst}
+use mathlib.Core.Path.{_≡_, sym, _∙_}
 use mathlib.Core.Bool.{true}
-use mathlib.Core.List.{List, _++_}
+use mathlib.Core.List.{List}
 use native.Mathlib.Omega.{arith}
-use lib.ListN.{length, take, drop, set}
+use lib.ListN.{length, take, set}
 use lib.Seq.{length-take-le}
 use Rattle.rules.specs.Shape.{places}
 use Rattle.rules.specs.Lists.{atFront}

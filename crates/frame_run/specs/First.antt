@@ -1,5 +1,5 @@
--- The first line, as the code closes it. `read-as`: by how it is read. `first-whole`, `first-long`: a line held whole, and
--- one too long.
+-- The first line, as the code closes it. `read-as`: by how it is read. `first-whole`, `first-long`: a line held whole,
+-- and one too long.
 -- Assumes nothing.
 use Prim.Native.Nat.{ℕ, _-_, _≤_, _<_}
 use mathlib.Core.Path.{_≡_, refl, sym, ap, _∙_}
