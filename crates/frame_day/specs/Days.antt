@@ -23,7 +23,7 @@ use Rattle.together.specs.Machine.{Said}
 use Rattle.frame_day.specs.Terms.{paired, Follows, dayAfter, history, playedHistory, frameHistory, historyAt}
 use Rattle.frame_day.specs.Terms.{lineHistory}
 use Rattle.frame_day.specs.Moments.{play-follows}
-use Rattle.frame_day.specs.Zero.{in-limits}
+use Rattle.frame_first.specs.Limits.{in-limits}
 use Rattle.frame_day.specs.Kept.{Kept, zeros-kept, kept-line}
 
 -- at the first line nothing has happened; of an Ended run nothing is said

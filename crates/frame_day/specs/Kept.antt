@@ -39,7 +39,8 @@ use Rattle.frame_day.specs.Counting.{paired-parts}
 use Rattle.frame_day.specs.Line.{line-plain, line-known, line-lists, line-once, line-new}
 use Rattle.frame_day.specs.Room.{listed-append, distinct-fewer, inserted-listed, line-none-full}
 use Rattle.frame_day.specs.Room.{line-every-listed, line-bytes, inserted-times, inserted-in}
-use Rattle.frame_day.specs.Zero.{InLimits, in-limits, zeros-plain, zeros-list, used-zeros}
+use Rattle.frame_first.specs.Limits.{InLimits, in-limits}
+use Rattle.frame_day.specs.Zero.{zeros-plain, zeros-list, used-zeros}
 
 -- a table that had room for every accepted key
 pub record Roomed (f : First) (table : List ℕ) (past : List Said) : Type 0 where

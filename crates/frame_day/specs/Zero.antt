@@ -11,39 +11,16 @@ use lib.Pow.{pow-mono}
 use borrow.Author.Tests.{eq-eqb}
 use Rattle.rules.specs.Lists.{all}
 use Rattle.rules.specs.Shape.{homes, places, goodTable, fitsLength}
-use Rattle.rules.specs.Record.{within}
 use Rattle.rules.specs.Lay.{ascend}
 use Rattle.table_words.specs.Range.{InRange, range-in}
 use Rattle.table_words.specs.Clear.{take-replicate}
-use Rattle.table_words.specs.Tests.{between}
-use Rattle.theory.specs.Dealt.{and-left, and-right, and-both}
+use Rattle.theory.specs.Dealt.{and-both}
 use Rattle.demands.specs.Terms.{PlainTable, InKeys, listOf, distinct, left-by, putAll, Builds}
 use Rattle.demands.specs.Demand2.{build-lists, build-puts}
 use Rattle.rules.specs.declared.Shape.{Shape}
 use Rattle.frame_rules.specs.declared.First.{First}
-use Rattle.frame_rules.specs.Lines.{inLimits, shapeInLimits, tasksInLimits}
 use Rattle.frame_rules.specs.Frame.{used, usedPart}
-
--- ---- the numbers of a first line that is in its limits
-pub record InLimits (f : First) : Type 0 where
-  pub range : InRange (f .shape)
-  pub m-high : f .shape .m ≤ 14
-  pub tasks-high : f .tasks ≤ 16
-
-pub in-limits : (f : First) → inLimits f ≡ true → InLimits f
-unfolding inLimits shapeInLimits tasksInLimits
-in-limits f h =
-    let shape = and-left (within 1 14 (f .shape .m) && within 1 12 (f .shape .r)) _ h in
-    let some = and-left (within 1 14 (f .shape .m)) _ shape in
-    let rest = and-right (within 1 14 (f .shape .m)) _ shape in
-    let crew = and-right (within 1 14 (f .shape .m) && within 1 12 (f .shape .r)) _ h in
-    let m = between 1 14 (f .shape .m) some in
-    let r = between 1 12 (f .shape .r) rest in
-    record {
-      range = record { m-low = m .least; m-high = omega (arith, m .most); r-low = r .least; r-high = r .most };
-      m-high = m .most;
-      tasks-high = between 1 16 (f .tasks) crew .most;
-    }
+use Rattle.frame_first.specs.Limits.{InLimits}
 
 -- ---- zeros
 module _ (sh : Shape) (range : InRange sh) where

@@ -18,7 +18,7 @@ use Rattle.frame_rules.specs.Lines.{tasksInLimits, keysOf, goodLine}
 use Rattle.frame_rules.specs.Rounds.{play}
 use Rattle.frame_rules.specs.Call.{Line, answered, ended, refused, passedOver, leftAlone, played, line}
 use Rattle.table_words.specs.Range.{InRange, good-table}
-use Rattle.table_words.specs.Tests.{between}
+use Rattle.frame_first.specs.Limits.{tasks-limits}
 use Rattle.frame_pieces.specs.Limits.{keys-count}
 use Rattle.frame_line.specs.Play.{Ran, ran, ranOf, lineKeys}
 
@@ -124,8 +124,7 @@ pub range-good : (sh : Shape) (size : ℕ) (t : Bool) → t ≡ goodTable sh siz
 range-good sh size t asked e = good-table sh size (sym asked ∙ e) .0
 
 pub few-tasks : (n : ℕ) (b : Bool) → b ≡ tasksInLimits n → b ≡ true → n ≤ 16
-unfolding tasksInLimits
-few-tasks n b asked e = between 1 16 n (sym asked ∙ e) .most
+few-tasks n b asked e = tasks-limits n (sym asked ∙ e)
 
 module _ (f : First) (table text slots : List ℕ) (t : Bool) (asked : t ≡ goodTable (f .shape) (length table)) where
   pub line-bad-shape : t ≡ false → leftAlone (refused 1) table slots ≡ line f table text slots

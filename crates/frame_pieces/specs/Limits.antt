@@ -1,65 +1,28 @@
 -- What is printed fits the room for it: a line prints at most 1,025 bytes (`line-prints`), the end at most 65,545
 -- (`end-prints`). A day that is fit stays fit (`Fit`, `line-fits`): its table's length, and what its first line said.
 -- Assumes nothing.
-use Prim.Native.Nat.{ℕ, zero, suc, _+_, _/_, _%_, _^_, _≤_}
+use Prim.Native.Nat.{ℕ, zero, suc, _+_, _/_, _%_, _≤_}
 use mathlib.Core.Path.{_≡_, refl, ap}
 use mathlib.Core.Bool.{Bool, true, false, cond, _&&_, and-eq-true-iff}
 use mathlib.Core.List.{List, [], _∷_}
 use native.Mathlib.Omega.{arith}
 use lib.ListN.{length, drop, length-append, length-take, length-drop, length-replicate}
 use lib.Seq.{length-take-le}
-use lib.Pow.{pow-mono}
 use lib.Dec.{leb, ltb, eqb}
 use borrow.Author.Tests.{leb-true}
 use Rattle.rules.specs.Lists.{all}
-use Rattle.rules.specs.Shape.{homes, keys, places}
-use Rattle.rules.specs.Record.{within}
-use Rattle.table_words.specs.Tests.{between}
+use Rattle.rules.specs.Shape.{keys}
 use Rattle.frame_rules.specs.declared.First.{First}
 use Rattle.frame_rules.specs.declared.Stage.{Stage}
 use Rattle.frame_rules.specs.declared.Stage.the-variants.{AtFirst, Among, Ended}
 use Rattle.frame_rules.specs.Digits.{isDigit, digitsOf, wordDigits}
 use Rattle.frame_digits.specs.Print.{digits-length, words-length}
-use Rattle.frame_rules.specs.Lines.{firstOf, shapeInLimits, tasksInLimits, inLimits, goodFirst, firstKeys, keysOf}
-use Rattle.frame_rules.specs.Lines.{goodLine}
+use Rattle.frame_rules.specs.Lines.{firstOf, inLimits, goodFirst, firstKeys, keysOf, goodLine}
 use Rattle.frame_rules.specs.Rounds.{Floor, allAnswered, play}
 use Rattle.frame_rules.specs.Frame.{Day, dawn, used, usedPart, withUsed, after, printed, error, firstLine, playedLine}
 use Rattle.frame_rules.specs.Frame.{frameLine, lineAt, lineIn, endAt, atEnd}
+use Rattle.frame_first.specs.Limits.{used-fits}
 use Rattle.frame_pieces.specs.Sizes.{play-table, play-answers}
-
--- ---- the first line
--- m 1 to 14, r 1 to 12, 1 to 16 tasks
-pub record Limits (f : First) : Type 0 where
-  pub m-low : 1 ≤ f .shape .m
-  pub m-high : f .shape .m ≤ 14
-  pub r-low : 1 ≤ f .shape .r
-  pub r-high : f .shape .r ≤ 12
-  pub tasks-low : 1 ≤ f .tasks
-  pub tasks-high : f .tasks ≤ 16
-
-pub limits : (f : First) → inLimits f ≡ true → Limits f
-unfolding inLimits shapeInLimits tasksInLimits
-limits f e =
-    let (shape, tasks) = and-eq-true-iff (shapeInLimits (f .shape)) (tasksInLimits (f .tasks)) .0 e in
-    let (homeAt, rest) = and-eq-true-iff (within 1 14 (f .shape .m)) (within 1 12 (f .shape .r)) .0 shape in
-    let m = between 1 14 (f .shape .m) homeAt in
-    let r = between 1 12 (f .shape .r) rest in
-    let n = between 1 16 (f .tasks) tasks in
-    record {
-      m-low = m .least;
-      m-high = m .most;
-      r-low = r .least;
-      r-high = r .most;
-      tasks-low = n .least;
-      tasks-high = n .most;
-    }
-
--- the used part lies in the table
-pub used-fits : (f : First) → inLimits f ≡ true → used f ≤ 32772
-unfolding used places homes
-used-fits f e =
-    let high : 2 ^ f .shape .m ≤ 2 ^ 14 = pow-mono {i = f .shape .m} {j = 14} (limits f e .m-high) in
-    omega arith
 
 -- ---- how much is printed
 first-keys-count : (n : ℕ) (line : List ℕ) → length (firstKeys n line) ≡ n

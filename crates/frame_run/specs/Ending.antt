@@ -18,10 +18,11 @@ use Rattle.frame_rules.specs.Digits.{wordDigits}
 use Rattle.frame_rules.specs.Lines.{inLimits}
 use Rattle.frame_rules.specs.Frame.{used, printed, error, atEnd}
 use Rattle.frame_rules.specs.Feed.{dayOf}
-use Rattle.frame_pieces.specs.Limits.{Fit, used-fits}
+use Rattle.frame_first.specs.Limits.{in-limits, used-fits}
+use Rattle.frame_pieces.specs.Limits.{Fit}
 use Rattle.frame_run.specs.Closing.{shown, printing}
 use Rattle.frame_run.specs.Printing.{feed-ends}
-use Rattle.frame_run.specs.Framing.{limits-range, used-is, among-limits}
+use Rattle.frame_run.specs.Framing.{used-is, among-limits}
 
 -- ---- the table's line
 pub table-printed :
@@ -49,7 +50,7 @@ module _ (run : Run) (table : List ℕ) where
     first-good = among-limits run table fit f frames
 
     pub end-range : InRange (f .shape)
-    end-range = limits-range f first-good
+    end-range = in-limits f first-good .range
 
     module _ (n : ℕ) (count : n ≡ places (f .shape)) where
       end-used : 2 * n ≡ used f

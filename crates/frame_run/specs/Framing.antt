@@ -22,22 +22,16 @@ use Rattle.frame_rules.specs.Rounds.{Floor, allAnswered, play}
 use Rattle.frame_rules.specs.Frame.{After, after, used, printed, error, firstLine, playedLine, frameLine, lineIn}
 use Rattle.frame_rules.specs.Call.{Came, passedOver, answered, refused, Line, leftAlone, played, line, ended}
 use Rattle.frame_rules.specs.Feed.{runOf, dayOf, heldLine}
-use Rattle.table_words.specs.Range.{InRange, range-in}
+use Rattle.table_words.specs.Range.{range-in}
+use Rattle.frame_first.specs.Limits.{in-limits, used-fits}
 use Rattle.frame_pieces.specs.Sizes.{play-answers}
 use Rattle.frame_pieces.specs.Held.{held-whole, held-long, bad-line}
-use Rattle.frame_pieces.specs.Limits.{Limits, limits, used-fits, keys-count, few-keys, inStage, Fit}
+use Rattle.frame_pieces.specs.Limits.{keys-count, few-keys, inStage, Fit}
 use Rattle.frame_run.specs.declared.close.Closed.{Closed}
 use Rattle.frame_run.specs.Closing.{Closing, closed, closing, lineCame, fewAnswers}
 
 -- ---- a first line within its limits
 module _ (f : First) (within-limits : inLimits f ≡ true) where
-  lim : Limits f
-  lim = limits f within-limits
-
-  pub limits-range : InRange (f .shape)
-  limits-range =
-      record { m-low = lim .m-low; m-high = omega (arith, lim .m-high); r-low = lim .r-low; r-high = lim .r-high }
-
   -- the bytes of the used part, from the places
   pub used-is : (n : ℕ) → n ≡ places (f .shape) → 2 * n ≡ used f
   unfolding used
@@ -51,7 +45,7 @@ module _ (f : First) (within-limits : inLimits f ≡ true) where
     part-good : goodTable (f .shape) (length (take (used f) table)) ≡ true
     unfolding goodTable fitsLength used
     part-good =
-        rw (range-in (f .shape) limits-range)
+        rw (range-in (f .shape) (in-limits f within-limits .range))
         (eq-eqb (length (take (used f) table)) (2 * places (f .shape))
         (length-take-le (used f) table (omega (arith, used-fits f within-limits))))
 

@@ -11,7 +11,8 @@ ghost use Prim.Native.Nat.{_*_, _<_};
 ghost use Rattle.rules.specs.Answer.{numberOfRefusal, findSays, putSays, listSays, fillSays, doneSays, refuses};
 ghost use Rattle.table_packed.specs.Packed.{packed};
 
-fn refusal_number(n: Refusal) -> u64
+// The refusal's number, for whatever prints or packs it.
+pub fn refusal_number(n: Refusal) -> u8
     ensures { λ x. ⌜ (x ≡ numberOfRefusal n) × (x < 10) ⌝ }
 {
     match n {
@@ -30,7 +31,7 @@ fn refusal_number(n: Refusal) -> u64
 fn refused(n: Refusal) -> u64
     ensures { λ x. ⌜ x ≡ packed (refuses (numberOfRefusal n)) ⌝ }
 {
-    72057594037927936 * refusal_number(n)
+    72057594037927936 * (refusal_number(n) as u64)
 }
 
 pub fn pack_find(answer: FindAnswer) -> u64

@@ -1,9 +1,8 @@
 // What the example programs print: bytes, keys and words in capital hexadecimal digits, and a refusal by its number.
 // Nothing here is part of the table.
 use rules::Refusal;
-ghost use mathlib.Core.Path.{_≡_};
+use table_packed::refusal_number;
 ghost use Prim.Native.Nat.{_<_};
-ghost use Rattle.rules.specs.Answer.{numberOfRefusal};
 
 fn digit(d: u8) -> u8
     requires { ⌜ d < 16 ⌝ }
@@ -49,25 +48,9 @@ pub fn words(table: &[u8]) {
     }
 }
 
-fn number_of(n: Refusal) -> u64
-    ensures { λ x. ⌜ x ≡ numberOfRefusal n ⌝ }
-{
-    match n {
-        Refusal::BadShape => 1,
-        Refusal::BadKey => 2,
-        Refusal::BadTask => 3,
-        Refusal::Busy => 4,
-        Refusal::AtRest => 5,
-        Refusal::Unsound => 6,
-        Refusal::Locked => 7,
-        Refusal::Full => 8,
-        Refusal::TooFewSlots => 9,
-    }
-}
-
 pub fn refused(n: Refusal) {
     io::write_all(1, b" refused ");
-    io::print_decimal(1, number_of(n));
+    io::print_decimal(1, refusal_number(n) as u64);
 }
 
 pub fn end_line() {

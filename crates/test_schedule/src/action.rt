@@ -3,12 +3,14 @@
 use crate::record::put_record;
 use crate::record::record_in;
 use crate::record::two;
-use crate::start::First;
 use frame_digits::read::all_digits;
 use frame_digits::read::number;
+use frame_rules::First;
 use rules::Done;
 use rules::Refusal;
 use rules::Task;
+use table_packed::refusal_number;
+use table_words::shape::shape_of;
 use task_fits::record::no_task;
 use task_records::Kept;
 use task_records::give_all;
@@ -18,7 +20,6 @@ ghost use mathlib.Core.Bool.{true};
 ghost use Prim.Native.Nat.{_+_, _≤_};
 ghost use lib.ListN.{length};
 ghost use Rattle.rules.specs.Lists.{all};
-ghost use Rattle.rules.specs.Answer.{numberOfRefusal};
 ghost use Rattle.frame_rules.specs.Digits.{isDigit};
 
 // The records after an action, and how many bytes it printed.
@@ -27,27 +28,11 @@ pub struct Acted {
     pub wrote: usize,
 }
 
-fn number_of(n: Refusal) -> u8
-    ensures { λ x. ⌜ x ≡ numberOfRefusal n ⌝ }
-{
-    match n {
-        Refusal::BadShape => 1,
-        Refusal::BadKey => 2,
-        Refusal::BadTask => 3,
-        Refusal::Busy => 4,
-        Refusal::AtRest => 5,
-        Refusal::Unsound => 6,
-        Refusal::Locked => 7,
-        Refusal::Full => 8,
-        Refusal::TooFewSlots => 9,
-    }
-}
-
 // 0 means accepted.
 fn number_done(d: Done) -> u8 {
     match d {
         Done::Accepted => 0,
-        Done::Refused(n) => number_of(n),
+        Done::Refused(n) => refusal_number(n),
     }
 }
 
@@ -103,34 +88,19 @@ pub fn put_bad(out: &mut [u8]) -> usize
     3
 }
 
-// The numbers that a call goes by. Those of an action may be out of range: the call refuses them.
-struct Numbers {
-    pub m: u32,
-    pub r: u32,
-    pub count: usize,
-}
-
-fn firsts(f: First) -> Numbers {
-    Numbers {
-        m: f.m,
-        r: f.r,
-        count: f.count,
-    }
-}
-
-fn own(line: &[u8], at: usize) -> Numbers
+// The numbers that an action goes by instead of the first line's. They may be out of range: the call refuses them.
+fn own(line: &[u8], at: usize) -> First
     requires { ⌜ at + 6 ≤ length (now line) ⌝ ∗ ⌜ all isDigit (now line) ≡ true ⌝ }
 {
-    Numbers {
-        m: two(line, at) as u32,
-        r: two(line, at + 2) as u32,
-        count: two(line, at + 4) as usize,
+    First {
+        shape: shape_of(two(line, at) as u32, two(line, at + 2) as u32),
+        tasks: two(line, at + 4) as u32,
     }
 }
 
-// A line's step. Records are shown by the first line's count, whatever the call's own.
+// A line's step. Records are shown by the first line's number of tasks, whatever the call's own.
 fn step_by(
-    n: Numbers,
+    f: First,
     shown: usize,
     tasks: [Task; 16],
     line: &[u8],
@@ -141,17 +111,29 @@ fn step_by(
     ensures { λ a. ⌜ a .wrote ≤ 41 ⌝ }
 {
     let i = two(line, 0) as usize;
-    tell(step_all(n.m, n.r, table, tasks, n.count, i), shown, i, out)
+    tell(
+        step_all(f.shape.m, f.shape.r, table, tasks, f.tasks as usize, i),
+        shown,
+        i,
+        out,
+    )
 }
 
 // A line's give.
-fn give_by(n: Numbers, shown: usize, tasks: [Task; 16], line: &[u8], out: &mut [u8]) -> Acted
+fn give_by(f: First, shown: usize, tasks: [Task; 16], line: &[u8], out: &mut [u8]) -> Acted
     requires { ⌜ 41 ≤ length (now out) ⌝ ∗ ⌜ 10 ≤ length (now line) ⌝ ∗ ⌜ all isDigit (now line) ≡ true ⌝ }
     ensures { λ a. ⌜ a .wrote ≤ 41 ⌝ }
 {
     let i = two(line, 0) as usize;
     tell(
-        give_all(n.m, n.r, number(line, 2, 8), tasks, n.count, i),
+        give_all(
+            f.shape.m,
+            f.shape.r,
+            number(line, 2, 8),
+            tasks,
+            f.tasks as usize,
+            i,
+        ),
         shown,
         i,
         out,
@@ -163,12 +145,12 @@ fn act(f: First, tasks: [Task; 16], line: &[u8], table: &mut [u8], out: &mut [u8
     requires { ⌜ 41 ≤ length (now out) ⌝ ∗ ⌜ all isDigit (now line) ≡ true ⌝ }
     ensures { λ a. ⌜ a .wrote ≤ 41 ⌝ }
 {
-    let count = f.count;
+    let count = f.tasks as usize;
     let length = line.len();
     match length {
-        2 => return step_by(firsts(f), count, tasks, line, table, out),
+        2 => return step_by(f, count, tasks, line, table, out),
         8 => return step_by(own(line, 2), count, tasks, line, table, out),
-        10 => return give_by(firsts(f), count, tasks, line, out),
+        10 => return give_by(f, count, tasks, line, out),
         16 => return give_by(own(line, 10), count, tasks, line, out),
         40 => {
             let i = two(line, 0) as usize;

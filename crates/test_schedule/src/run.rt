@@ -2,11 +2,12 @@
 // The table is lent whole; the shape uses a part of it.
 use crate::action::action;
 use crate::action::put_bad;
-use crate::start::First;
-use crate::start::FirstLine;
-use crate::start::first_line;
 use crate::start::second_line;
+use crate::start::used_by;
 use frame_digits::print::put_words;
+use frame_first::first::read_first;
+use frame_rules::First;
+use frame_rules::FirstLine;
 use rules::Task;
 use task_fits::record::no_task;
 ghost use mathlib.Core.Path.{_≡_};
@@ -61,7 +62,7 @@ fn at_first(run: Run, line: &[u8], out: &mut [u8]) -> Run
     ensures { λ r. ⌜ r .wrote ≤ 41 ⌝ }
 {
     let tasks = run.tasks;
-    let first = first_line(line);
+    let first = read_first(line);
     match first {
         FirstLine::Good(f) => Run {
             stage: Reached::AtSecond(f),
@@ -78,7 +79,7 @@ fn at_second(run: Run, f: First, line: &[u8], table: &mut [u8], out: &mut [u8]) 
     ensures { λ r. ⌜ r .wrote ≤ 41 ⌝ }
 {
     let tasks = run.tasks;
-    if second_line(line, table) {
+    if second_line(f, line, table) {
         return Run {
             stage: Reached::Among(f),
             tasks: tasks,
@@ -111,14 +112,14 @@ pub fn line_in(run: Run, line: &[u8], table: &mut [u8], out: &mut [u8]) -> Run
     match stage {
         Reached::AtFirst => at_first(run, line, out),
         Reached::AtSecond(f) => {
-            let used = f.used;
+            let used = used_by(f);
             if used <= table.len() {
                 return at_second(run, f, line, &mut table[0..used], out);
             }
             ended(run, 0)
         }
         Reached::Among(f) => {
-            let used = f.used;
+            let used = used_by(f);
             if used <= table.len() {
                 return among(run, f, line, &mut table[0..used], out);
             }
@@ -132,7 +133,7 @@ pub fn line_in(run: Run, line: &[u8], table: &mut [u8], out: &mut [u8]) -> Run
 fn put_table(f: First, table: &[u8], out: &mut [u8]) -> usize
     ensures { λ n. ⌜ n ≤ length (now (out .exit)) ⌝ }
 {
-    let used = f.used;
+    let used = used_by(f);
     if used <= table.len() {
         if 2 * used < out.len() {
             put_words(&table[0..used], out);

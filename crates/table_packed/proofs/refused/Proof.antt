@@ -10,6 +10,9 @@ use Rattle.table_packed.proofs.refused.Tie as tie
 refusal-number-requires : tie.Need-refusal-number-requires
 refusal-number-requires c κs = search needs
 
+cast-result : tie.Need-cast-result
+cast-result c = search needs
+
 mul-result : tie.Need-mul-result
 mul-result c = search needs
 
@@ -17,4 +20,4 @@ returns : tie.Need-returns
 returns c = ap (λ (n : ℕ). 72057594037927936 * n) (c .refusal-number .ensures .0) ∙ refuses-packed _
 
 pub refused-spec : {M : Type 1} → statement M
-refused-spec = tie.close (tie.spec refusal-number-requires mul-result returns)
+refused-spec = tie.close (tie.spec refusal-number-requires cast-result mul-result returns)

@@ -4,12 +4,13 @@ use borrow.Author.Needs.{needs}
 use mathlib.Core.Path.{refl}
 use native.Mathlib.Omega.{arith}
 use denote.Ref.{now}
-use Rattle.frame_run.specs.Framing.{limits-range, used-inside, few-came, text-closed}
+use Rattle.frame_first.specs.Limits.{in-limits}
+use Rattle.frame_run.specs.Framing.{used-inside, few-came, text-closed}
 use Rattle.frame_run.proofs.frame.text_line.Statement.{statement}
 use Rattle.frame_run.proofs.frame.text_line.Tie as tie
 
 places-requires : tie.Need-places-requires
-places-requires c κs = limits-range _ (c .before .before .before .pre .0)
+places-requires c κs = in-limits _ (c .before .before .before .pre .0) .range
 
 cast-n : tie.Need-cast-n
 cast-n c = search needs

@@ -6,6 +6,9 @@ use lib.ListN.{length-set}
 use Rattle.test_schedule.proofs.run.put_table.Statement.{statement}
 use Rattle.test_schedule.proofs.run.put_table.Tie as tie
 
+used-by-requires : tie.Need-used-by-requires
+used-by-requires c κs = search needs
+
 mul-if2 : tie.Need-mul-if2
 mul-if2 c = search needs
 
@@ -51,6 +54,7 @@ pub put-table-spec : {M : Type 1} → statement M
 put-table-spec =
     tie.close
     (tie.spec
+    used-by-requires
     mul-if2
     sub-put-words
     part-put-words-start
