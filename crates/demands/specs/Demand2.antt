@@ -43,7 +43,8 @@ pub no-other-table :
     {sh : Shape} {bytes others : List ℕ} →
     PlainTable sh bytes →
     PlainTable sh others →
-    occupiedPlaces (wordsOf bytes) ≡ occupiedPlaces (wordsOf others) → listOf sh bytes ≡ listOf sh others → bytes ≡ others
+    occupiedPlaces (wordsOf bytes) ≡ occupiedPlaces (wordsOf others) → listOf sh bytes ≡ listOf sh others →
+    bytes ≡ others
 no-other-table t u places-same list-same = proof.one-table t u places-same list-same
 
 -- "Find on a sound unlocked table says present exactly for listed keys."

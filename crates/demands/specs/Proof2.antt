@@ -91,7 +91,8 @@ pub one-table :
     {sh : Shape} {bytes others : List ℕ} →
     PlainTable sh bytes →
     PlainTable sh others →
-    occupiedPlaces (wordsOf bytes) ≡ occupiedPlaces (wordsOf others) → listOf sh bytes ≡ listOf sh others → bytes ≡ others
+    occupiedPlaces (wordsOf bytes) ≡ occupiedPlaces (wordsOf others) → listOf sh bytes ≡ listOf sh others →
+    bytes ≡ others
 unfolding list
 one-table {sh} {bytes} {others} t u places-same list-same =
     same-bytes

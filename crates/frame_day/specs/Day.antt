@@ -66,7 +66,8 @@ module _ (f : First) {bytes : List ℕ} (t : PlainTable (f .shape) bytes) (few :
 
       -- the table lists the keys from before and those answered inserted,
       pub line-lists :
-          (x : ℕ) → listed x (listOf (f .shape) (end .table)) ≡ (listed x (listOf (f .shape) bytes) || wasInserted x answers)
+          (x : ℕ) → listed x (listOf (f .shape) (end .table))
+          ≡ (listed x (listOf (f .shape) bytes) || wasInserted x answers)
       line-lists = line.line-lists f t few course-of-line complete
 
       -- none so answered twice,

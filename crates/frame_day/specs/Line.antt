@@ -59,7 +59,8 @@ times-given x [] = refl
 times-given x (k ∷ ks) = ap₂ (λ (b : Bool) (n : ℕ). bitOf b + n) (eqb-sym x k) (times-given x ks)
 
 -- ---- the line
-module _ (f : First) {bytes : List ℕ} (t : PlainTable (f .shape) bytes) (few : f .tasks ≤ 16) {ks : List ℕ} {floor : Floor}
+module _ (f : First) {bytes : List ℕ} (t : PlainTable (f .shape) bytes)
+    (few : f .tasks ≤ 16) {ks : List ℕ} {floor : Floor}
     (run : Follows f bytes ks floor) (complete : allAnswered ks floor ≡ true)
   where
     abbrev tasks : List Task
@@ -78,7 +79,8 @@ module _ (f : First) {bytes : List ℕ} (t : PlainTable (f .shape) bytes) (few :
     all-taken : take (floor .taken) ks ≡ ks
     unfolding allAnswered
     all-taken =
-        ap (λ (k : ℕ). take k ks) (eqb-true (floor .taken) (length ks) (and-left (eqb (floor .taken) (length ks)) _ complete))
+        ap (λ (k : ℕ). take k ks)
+        (eqb-true (floor .taken) (length ks) (and-left (eqb (floor .taken) (length ks)) _ complete))
         ∙ take-length ks
 
     pub keys-alike : (p : ℕ → Bool) → count p (after .given) ≡ count p ks
@@ -133,7 +135,8 @@ module _ (f : First) {bytes : List ℕ} (t : PlainTable (f .shape) bytes) (few :
         (demand-3.answers-known t tasks no-more (idle-tasks (f .tasks)) (run .actions))
 
     pub line-lists :
-        (x : ℕ) → listed x (listOf (f .shape) (floor .table)) ≡ (listed x (listOf (f .shape) bytes) || wasInserted x answers)
+        (x : ℕ) → listed x (listOf (f .shape) (floor .table))
+        ≡ (listed x (listOf (f .shape) bytes) || wasInserted x answers)
     unfolding wasInserted
     line-lists x =
         ap (λ (bs : List ℕ). listed x (listOf (f .shape) bs)) (sym (run .same-table))
@@ -150,4 +153,5 @@ module _ (f : First) {bytes : List ℕ} (t : PlainTable (f .shape) bytes) (few :
 
     pub line-new : (x : ℕ) → listed x (listOf (f .shape) bytes) ≡ true → timesInserted x answers ≡ 0
     line-new x there =
-        sym (inserted-alike x) ∙ demand-3.inserted-new t tasks no-more (idle-tasks (f .tasks)) (run .actions) done x there
+        sym (inserted-alike x)
+        ∙ demand-3.inserted-new t tasks no-more (idle-tasks (f .tasks)) (run .actions) done x there

@@ -84,7 +84,8 @@ module _ (f : First) {bytes : List ℕ} (ks : List ℕ) (t : PlainTable (f .shap
     (h : InKeys (f .shape) ks)
   where
     -- demand 3's invariant holds at every moment
-    moment-fair : {floor : Floor} (now : Moment f bytes ks floor) → Fair (f .shape) bytes (world floor (now .accepted) (now .said))
+    moment-fair : {floor : Floor} (now : Moment f bytes ks floor) →
+        Fair (f .shape) bytes (world floor (now .accepted) (now .said))
     unfolding quiet
     moment-fair now =
         subst
@@ -92,7 +93,8 @@ module _ (f : First) {bytes : List ℕ} (ks : List ℕ) (t : PlainTable (f .shap
         (now .reached)
         (fair-course
         (now .actions)
-        (fair-begin (replicate (f .tasks) noTask) t (omega (arith, length-replicate (f .tasks) noTask)) (idle-tasks (f .tasks))))
+        (fair-begin (replicate (f .tasks) noTask) t (omega (arith, length-replicate (f .tasks) noTask))
+        (idle-tasks (f .tasks))))
 
     moment-start : Moment f bytes ks (start bytes (f .tasks) ks)
     unfolding start course
@@ -231,7 +233,8 @@ module _ (f : First) {bytes : List ℕ} (ks : List ℕ) (t : PlainTable (f .shap
                   tasks = set (floor .tasks) i next;
                   serving = floor .serving;
                   taken = floor .taken;
-                  answers = cond (eqb (u .phase) 13) (set (floor .answers) (getD (floor .serving) i 0) (u .answer)) (floor .answers);
+                  answers = cond (eqb (u .phase) 13) (set (floor .answers) (getD (floor .serving) i 0) (u .answer))
+                      (floor .answers);
                 }
 
       -- ---- a turn
@@ -251,7 +254,8 @@ module _ (f : First) {bytes : List ℕ} (ks : List ℕ) (t : PlainTable (f .shap
 
     -- ---- turns, rounds
     turns-moment :
-        (k i : ℕ) {floor : Floor} → i + k ≤ (f .tasks) → Moment f bytes ks floor → Moment f bytes ks (turns f ks k i floor)
+        (k i : ℕ) {floor : Floor} → i + k ≤ (f .tasks) → Moment f bytes ks floor →
+        Moment f bytes ks (turns f ks k i floor)
     unfolding turns
     turns-moment zero i le now = now
     turns-moment (suc k) i le now =

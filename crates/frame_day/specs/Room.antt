@@ -140,7 +140,8 @@ inserted-in sh (s ∷ past) h = go (eqb (s .answer) 2) (inserted-in sh past (and
     go false more = more
 
 -- ---- one line
-module _ (f : First) {bytes : List ℕ} (t : PlainTable (f .shape) bytes) (few : f .tasks ≤ 16) {ks : List ℕ} {floor : Floor}
+module _ (f : First) {bytes : List ℕ} (t : PlainTable (f .shape) bytes)
+    (few : f .tasks ≤ 16) {ks : List ℕ} {floor : Floor}
     (run : Follows f bytes ks floor) (complete : allAnswered ks floor ≡ true) (h : InKeys (f .shape) ks)
   where
     abbrev accepted : List ℕ

@@ -46,7 +46,8 @@ pub record Follows (f : First) (bytes ks : List ℕ) (floor : Floor) : Type 0 wh
   pub as-many : length (floor .answers) ≡ length ks
   pub same-keys :
       (p : ℕ → Bool) →
-      count p (course (f .shape) (begin bytes (replicate (f .tasks) noTask)) actions .given) ≡ count p (take (floor .taken) ks)
+      count p (course (f .shape) (begin bytes (replicate (f .tasks) noTask)) actions .given)
+      ≡ count p (take (floor .taken) ks)
   pub same-answers :
       (p : Said → Bool) →
       count p (course (f .shape) (begin bytes (replicate (f .tasks) noTask)) actions .said)

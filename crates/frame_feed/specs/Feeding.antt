@@ -76,7 +76,8 @@ module _ (piece : List ℕ) (at from end : ℕ) (inside : from ≡ min at (lengt
             (λ (n : ℕ). holding (heldAfter (run .held) n) (lineAfter line (run .held) (take more rest)))
             (length-take-le more rest (line-inside rest))
 
-        rest-good : feedGood run rest at (lentBuffers line table out) ≡ feedGood run (drop at piece) at (lentBuffers line table out)
+        rest-good : feedGood run rest at (lentBuffers line table out)
+            ≡ feedGood run (drop at piece) at (lentBuffers line table out)
         rest-good = ap (λ (r : List ℕ). feedGood run r at (lentBuffers line table out)) same-rest
 
         -- a line feed was met: the line is closed, and the point stands after the line feed
@@ -119,7 +120,8 @@ module _ (piece : List ℕ) (at from end : ℕ) (inside : from ≡ min at (lengt
             end-met piece from end ends ∙ le-ltb end (length piece) unmet in
             ap (λ (x : Run). feeds x (at + (end - from)) 0 (lentBuffers after table out)) e
             ∙ ap (λ (p : ℕ). feeds (withHeld run held) p 0 (lentBuffers after table out)) point
-            ∙ ap (λ (x : Holding). feeds (withHeld run (x .held)) (at + more) 0 (lentBuffers (x .line) table out)) kept-is
+            ∙ ap (λ (x : Holding). feeds (withHeld run (x .held)) (at + more) 0
+            (lentBuffers (x .line) table out)) kept-is
             ∙ ap
             (λ (m : Bool). heldOrClosed run (at + more) (kept .held) m (lentBuffers (kept .line) table out))
             (sym feed-met)

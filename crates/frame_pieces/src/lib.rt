@@ -1,2 +1,3 @@
-// Feeding in pieces: no code, only the theorem that any pieces, fed and finished, write what the crate frame_rules says.
+// Feeding in pieces: no code, only the theorem that any pieces, fed and finished, write what the crate frame_rules
+// says.
 // The statement is in specs/Pieces.antt.

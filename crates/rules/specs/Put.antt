@@ -48,7 +48,8 @@ putIn sh ws e =
     cond (soundAround sh ws (e .homePlace))
     (cond (lockedAround ws (e .homePlace))
     (keeps (refuses 7))
-    (cond (holds e (clusterEntries ws (e .homePlace))) (keeps (says 1)) (addTo ws e (roomFor sh (occupiedPlaces ws) (e .homePlace)))))
+    (cond (holds e (clusterEntries ws (e .homePlace))) (keeps (says 1))
+    (addTo ws e (roomFor sh (occupiedPlaces ws) (e .homePlace)))))
     (keeps (refuses 6))
 
 -- the words, and the bytes, that an outcome leaves

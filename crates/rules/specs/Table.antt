@@ -93,7 +93,8 @@ unfoldable pub clusterEntries : List Word → ℕ → List Entry
 clusterEntries ws p = entriesBetween ws (leftGap (occupiedPlaces ws) p) (rightGap (occupiedPlaces ws) p)
 
 unfoldable pub entryAt : List Word → ℕ → Entry
-entryAt ws p = getD (clusterEntries ws p) (p - suc (leftGap (occupiedPlaces ws) p)) (record { homePlace = 0; remainder = 0 })
+entryAt ws p = getD (clusterEntries ws p) (p - suc (leftGap (occupiedPlaces ws) p))
+    (record { homePlace = 0; remainder = 0 })
 
 -- the entries at the occupied places, from left to right; `rest` are the words from place p on
 unfoldable pub entriesFrom : List Word → ℕ → List Word → List Entry

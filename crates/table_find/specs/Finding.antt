@@ -27,7 +27,8 @@ module _ (sh : Shape) (ws : List Word) (e : Entry) where
   found-barred barred = rw (around-barred sh ws (e .homePlace) barred)
 
   pub found-alone :
-      guardsVoid sh ws ≡ true → length ws ≡ places sh → HomePlace sh (e .homePlace) → at ws (e .homePlace) .occupied ≡ false →
+      guardsVoid sh ws ≡ true → length ws ≡ places sh → HomePlace sh (e .homePlace) →
+      at ws (e .homePlace) .occupied ≡ false →
       findIn sh ws e ≡ aloneSays (at ws (e .homePlace))
   unfolding findIn holds any
   found-alone void size h empty =

@@ -9,7 +9,8 @@ use Rattle.table_words.specs.Split.{InShape, split-in-shape}
 use Rattle.theory.specs.Dealt.{entry-path}
 use Rattle.table_read.specs.Read.{entry}
 
-module _ (sh : Shape) (key homeAt x : ℕ) (placed : homeAt ≡ split sh key .homePlace) (rest : x ≡ remainderOf sh key) where
+module _ (sh : Shape) (key homeAt x : ℕ) (placed : homeAt ≡ split sh key .homePlace)
+    (rest : x ≡ remainderOf sh key) where
   pub key-entry : entry homeAt x ≡ split sh key
   unfolding split
   key-entry = entry-path placed rest

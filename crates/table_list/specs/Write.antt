@@ -174,7 +174,8 @@ module _ {sh : Shape} {bs : List ℕ} {n : ℕ} {slots₀ : List ℕ} (given : L
 
         pub write-on :
             (key : ℕ) →
-            key ≡ join sh (record { homePlace = g; remainder = y }) → Writing sh bs slots₀ g q x (k + 1) (set slots k key)
+            key ≡ join sh (record { homePlace = g; remainder = y }) →
+            Writing sh bs slots₀ g q x (k + 1) (set slots k key)
         unfolding list
         write-on key joined =
             record {

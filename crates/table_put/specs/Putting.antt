@@ -103,7 +103,8 @@ module _ (sh : Shape) (ws : List Word) (e : Entry)
     put-unsound s = rw s
 
     pub put-locked :
-        soundAround sh ws (e .homePlace) ≡ true → lockedAround ws (e .homePlace) ≡ true → putIn sh ws e ≡ keeps (refuses 7)
+        soundAround sh ws (e .homePlace) ≡ true → lockedAround ws (e .homePlace) ≡ true →
+        putIn sh ws e ≡ keeps (refuses 7)
     unfolding putIn
     put-locked s l = rw (s, l)
 
@@ -154,7 +155,8 @@ broughtTo ws e read hand goal = finish (fillAt (e .remainder) ws hand) hand goal
 module _ {sh : Shape} {ws : List Word} {e : Entry} {l : Place} {read : Read} (g : Insertable sh ws e l read) where
   -- no more keys are smaller than there are
   pub reach :
-      (suc (l .0) + read .smaller ≤ rightGap (occupiedPlaces ws) (e .homePlace)) × (rightGap (occupiedPlaces ws) (e .homePlace) < places sh)
+      (suc (l .0) + read .smaller ≤ rightGap (occupiedPlaces ws) (e .homePlace))
+      × (rightGap (occupiedPlaces ws) (e .homePlace) < places sh)
   unfolding readOf clusterEntries
   reach =
       let left = leftGap (occupiedPlaces ws) (e .homePlace) in
@@ -171,7 +173,8 @@ module _ {sh : Shape} {ws : List Word} {e : Entry} {l : Place} {read : Read} (g 
 
   -- the theory's law, with the hand at a gap and the enlarged cluster's first place
   moved :
-      (side : gaps.Side) (p a : ℕ) → p ≡ gaps.gap side (occupiedPlaces ws) (e .homePlace) → enlargedFrom ws (e .homePlace) p ≡ a →
+      (side : gaps.Side) (p a : ℕ) → p ≡ gaps.gap side (occupiedPlaces ws) (e .homePlace) →
+      enlargedFrom ws (e .homePlace) p ≡ a →
       addAt ws e p
       ≡ finish
       (fillAt (e .remainder) ws p)
@@ -206,7 +209,8 @@ module _ {sh : Shape} {ws : List Word} {e : Entry} {l : Place} {read : Read} (g 
 -- a read of the cluster that does not find the key makes it ready
 pub ready :
     (sh : Shape) (ws : List Word) (e : Entry) {l : End} {read : Read} →
-    InRange sh → InShape sh e → length ws ≡ places sh → Open sh ws (e .homePlace) → at ws (e .homePlace) .occupied ≡ true →
+    InRange sh → InShape sh e → length ws ≡ places sh → Open sh ws (e .homePlace) →
+    at ws (e .homePlace) .occupied ≡ true →
     l ≡ leftEnd ws (e .homePlace) → read ≡ readOf e (clusterEntries ws (e .homePlace)) → read .held ≡ false →
     Insertable sh ws e (l .gap) read
 unfolding readOf leftEnd

@@ -136,7 +136,8 @@ pass-groups e gs (w ∷ ws) s (h ∷ hs) (below-next lt low) o =
     (w .change)
     refl
     (owed-next (h ∷ (hs ++ gs)) w ws o)
-    (λ (ks : List ℕ) (b : Below (e .homePlace) ks) (next : Owed (ks ++ gs) ws). pass-groups e gs ws (more 1 s) ks b next)
+    (λ (ks : List ℕ) (b : Below (e .homePlace) ks) (next : Owed (ks ++ gs) ws). pass-groups e gs ws
+    (more 1 s) ks b next)
   where
     go :
         (b : Bool) → w .change ≡ b → Owed (due b (h ∷ (hs ++ gs))) ws →
@@ -186,7 +187,8 @@ read-group e hs (w ∷ ws) s high o =
     ∙ go
     (w .change)
     (owed-next (e .homePlace ∷ hs) w ws o)
-    (λ (next : Owed (e .homePlace ∷ hs) ws). read-group e hs ws (look e (entry (e .homePlace) (w .remainder)) s) high next)
+    (λ (next : Owed (e .homePlace ∷ hs) ws). read-group e hs ws
+    (look e (entry (e .homePlace) (w .remainder)) s) high next)
   where
     now-seen : Seen
     now-seen = look e (entry (e .homePlace) (w .remainder)) s

@@ -116,7 +116,8 @@ pub insert-between :
     d ≤ 4096 →
     e .remainder < d →
     Asc d n b xs →
-    n ≤ e .homePlace → e .homePlace < m → Asc d c (m * 4096) zs → insert e (xs ++ (ys ++ zs)) ≡ xs ++ (insert e ys ++ zs)
+    n ≤ e .homePlace → e .homePlace < m → Asc d c (m * 4096) zs →
+    insert e (xs ++ (ys ++ zs)) ≡ xs ++ (insert e ys ++ zs)
 insert-between n m e {xs} ys {zs} s low up first last down =
     insert-back e (ys ++ zs) (omega arith) (every.all-map (λ f lt. omega arith) (asc-below s up))
     ∙ ap (λ (es : List Entry). xs ++ es) (insert-front e ys s down (omega arith))
@@ -221,7 +222,8 @@ add-home {d} {ws} {es} e t s low some more =
           (λ (os : List Bool). occupiedPlaces (t .u) ++ os)
           (occupied-append l (t .v) ∙ ap (λ (os : List Bool). os ++ occupiedPlaces (t .v)) (run-all 1 here refl))
           ∙ sym
-          (ap (λ (vs : List Word). set (occupiedPlaces vs) (length (t .u)) true) (t .words) ∙ filled (t .u) (t .g) (t .v));
+          (ap (λ (vs : List Word). set (occupiedPlaces vs) (length (t .u)) true) (t .words)
+          ∙ filled (t .u) (t .g) (t .v));
     }
   where
     l : List Word
@@ -309,7 +311,8 @@ module _ {d : ℕ} {ws : List Word} {es : List Entry} (e : Entry) (t : InRun d w
               ∙ ap
               (λ (os : List Bool). occupiedPlaces (t .u) ++ os)
               (occupied-append l (t .h ∷ t .v)
-              ∙ ap (λ (os : List Bool). os ++ occupiedPlaces (t .h ∷ t .v)) (run-all (suc (length (t .run))) here one-more)
+              ∙ ap (λ (os : List Bool). os ++ occupiedPlaces (t .h ∷ t .v))
+              (run-all (suc (length (t .run))) here one-more)
               ∙ ap
               (λ (os : List Bool). true ∷ (os ++ occupiedPlaces (t .h ∷ t .v)))
               (sym (run-all (length (t .run)) (t .inside) (t .inside .size)))
@@ -365,8 +368,10 @@ module _ {d : ℕ} {ws : List Word} {es : List Entry} (e : Entry) (t : InRun d w
               ∙ ap
               (λ (os : List Bool). os ++ (true ∷ occupiedPlaces (t .v)))
               (sym (run-all (length (t .run)) (t .inside) (t .inside .size))))
-              ∙ sym (append-assoc (occupiedPlaces (t .u)) (t .g .occupied ∷ occupiedPlaces (t .run)) (true ∷ occupiedPlaces (t .v)))
-              ∙ ap (λ (os : List Bool). os ++ (true ∷ occupiedPlaces (t .v))) (sym (occupied-append (t .u) (t .g ∷ t .run)))
+              ∙ sym (append-assoc (occupiedPlaces (t .u)) (t .g .occupied ∷ occupiedPlaces (t .run))
+              (true ∷ occupiedPlaces (t .v)))
+              ∙ ap (λ (os : List Bool). os ++ (true ∷ occupiedPlaces (t .v)))
+              (sym (occupied-append (t .u) (t .g ∷ t .run)))
               ∙ sym (filled (t .u ++ (t .g ∷ t .run)) (t .h) (t .v))
               ∙ ap₂
               (λ (vs : List Word) (n : ℕ). set (occupiedPlaces vs) n true)

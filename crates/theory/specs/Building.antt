@@ -183,7 +183,8 @@ module _ {sh : Shape} {us : List Entry} {ws : List Word} {es : List Entry} (e : 
     put-inserted p h room added =
         record {
           state = added-state t added;
-          places = added .places ∙ ap (fillAt (occupiedPlaces ws)) (sym room) ∙ ap (filledFor sh (occupiedPlaces ws) e) (sym h);
+          places = added .places ∙ ap (fillAt (occupiedPlaces ws)) (sym room)
+              ∙ ap (filledFor sh (occupiedPlaces ws) e) (sym h);
         }
 
     -- there is room

@@ -187,7 +187,8 @@ cut-home sh ws h size void homeAt full =
     -- a gap is another place than the home
     apart : (p : ℕ) → Free (occupiedPlaces ws) p → p ≡ h → ⊥
     apart p free same =
-        true≢false (sym full ∙ sym (occupied-at ws h) ∙ ap (λ (q : ℕ). getD (occupiedPlaces ws) q false) (sym same) ∙ free)
+        true≢false (sym full ∙ sym (occupied-at ws h) ∙ ap (λ (q : ℕ). getD (occupiedPlaces ws) q false) (sym same)
+        ∙ free)
 
     go : (q : ℕ) → suc l ≤ q → q < r → (b : Bool) → leb q h ≡ b → Taken (occupiedPlaces ws) q
     go q x y true e = gap-below gaps.left below q x (omega (arith, leb-true q h e))

@@ -87,7 +87,8 @@ dealt-step d h hs w v ws low rise n rest = go (w .change) refl
     go :
         (b : Bool) →
         w .change ≡ b →
-        Dealt d (h ∷ hs) (w ∷ v ∷ ws) (record { homePlace = h; remainder = w .remainder } ∷ deal (due b (h ∷ hs)) (v ∷ ws))
+        Dealt d (h ∷ hs) (w ∷ v ∷ ws)
+        (record { homePlace = h; remainder = w .remainder } ∷ deal (due b (h ∷ hs)) (v ∷ ws))
     go true e = dealt-ends e low refl refl (rest hs (omega (arith, rw e at n)))
     go false e =
         dealt-goes
@@ -139,9 +140,11 @@ entry-path p q = λ i. record { homePlace = p i; remainder = q i }
 
 deal-cons :
     (h : ℕ) (hs : List ℕ) (w : Word) (ws : List Word) (b : Bool) →
-    w .change ≡ b → deal (h ∷ hs) (w ∷ ws) ≡ record { homePlace = h; remainder = w .remainder } ∷ deal (due b (h ∷ hs)) ws
+    w .change ≡ b → deal (h ∷ hs) (w ∷ ws)
+    ≡ record { homePlace = h; remainder = w .remainder } ∷ deal (due b (h ∷ hs)) ws
 unfolding deal
-deal-cons h hs w ws b c = ap (λ (x : Bool). record { homePlace = h; remainder = w .remainder } ∷ deal (due x (h ∷ hs)) ws) c
+deal-cons h hs w ws b c = ap
+    (λ (x : Bool). record { homePlace = h; remainder = w .remainder } ∷ deal (due x (h ∷ hs)) ws) c
 
 -- an entry for each word
 pub deal-length : (hs : List ℕ) (ws : List Word) → length (deal hs ws) ≡ length ws

@@ -130,8 +130,10 @@ run-surroundings sh {ws} {es} e s low guards free t =
           (t .run)
           (sym (ap (guardsVoid sh) (t .words)) ∙ guards)
           (run-left (t .u) (t .g) (t .run) (t .h) (t .v) empty taken hollow start (e .homePlace) (t .after) (t .before))
-          (run-right (t .u) (t .g) (t .run) (t .h) (t .v) empty taken hollow start (e .homePlace) (t .after) (t .before))
-          (run-cluster (t .u) (t .g) (t .run) (t .h) (t .v) empty taken hollow start (e .homePlace) (t .after) (t .before))
+          (run-right (t .u) (t .g) (t .run) (t .h) (t .v) empty taken hollow start (e .homePlace) (t .after)
+          (t .before))
+          (run-cluster (t .u) (t .g) (t .run) (t .h) (t .v) empty taken hollow start (e .homePlace) (t .after)
+          (t .before))
           (ap isVoid (at-seam (t .u) (t .g) (t .run ++ (t .h ∷ t .v))) ∙ t .void)
           (ap
           isVoid
@@ -219,7 +221,8 @@ any-drop f (suc n) (w ∷ ws) h = any-drop f n ws (go (f w) h)
 
 pub around-free : (ws : List Word) (p : ℕ) → locked ws ≡ false → lockedAround ws p ≡ false
 unfolding lockedAround around locked
-around-free ws p free = any-drop _ (leftGap (occupiedPlaces ws) p) _ (any-take _ (suc (rightGap (occupiedPlaces ws) p)) ws free)
+around-free ws p free = any-drop _ (leftGap (occupiedPlaces ws) p) _
+    (any-take _ (suc (rightGap (occupiedPlaces ws) p)) ws free)
 
 -- find on an unlocked table says present exactly for the entries that it shows
 pub find-table :

@@ -54,9 +54,14 @@ unfolding sameEntry sameHome
 same-eq e f s = go (eqb (e .homePlace) (f .homePlace)) (eqb (e .remainder) (f .remainder)) refl refl s
   where
     go :
-        (a b : Bool) → eqb (e .homePlace) (f .homePlace) ≡ a → eqb (e .remainder) (f .remainder) ≡ b → (a && b) ≡ true → e ≡ f
+        (a b : Bool) → eqb (e .homePlace) (f .homePlace) ≡ a → eqb (e .remainder) (f .remainder) ≡ b →
+        (a && b) ≡ true → e ≡ f
     go true true p q t =
-        λ i. record { homePlace = eqb-true (e .homePlace) (f .homePlace) p i; remainder = eqb-true (e .remainder) (f .remainder) q i }
+        λ i. record {
+          homePlace = eqb-true (e .homePlace) (f .homePlace) p i;
+          remainder = eqb-true (e .remainder)
+              (f .remainder) q i;
+        }
     go true false p q t = absurd (false≢true t)
     go false b p q t = absurd (false≢true t)
 

@@ -43,7 +43,8 @@ has-home-left x s (next {e = e} p q r up) le =
 -- ---- laying entries one after the other
 -- an entry with a home below c ends its group before entries from home c on
 ends-before :
-    {d c c′ : ℕ} (e : Entry) {ys : List Entry} → d ≤ 4096 → e .homePlace < c → Asc d c′ (c * 4096) ys → endsGroup e ys ≡ true
+    {d c c′ : ℕ} (e : Entry) {ys : List Entry} → d ≤ 4096 → e .homePlace < c → Asc d c′ (c * 4096) ys →
+    endsGroup e ys ≡ true
 unfolding endsGroup sameHome
 ends-before e s lt none = refl
 ends-before e s lt (next {e = f} p q r up) =

@@ -92,7 +92,8 @@ join-order sh e f s i j lt = go (eqb (e .homePlace) (f .homePlace)) refl
         rw same (omega arith)
     go false k =
         let apart = eqb-false (e .homePlace) (f .homePlace) k in
-        let lower : suc (e .homePlace - 1) ≤ f .homePlace - 1 = omega (arith, i .home-low, i .remainder-low, j .remainder-low) in
+        let lower : suc (e .homePlace - 1) ≤ f .homePlace - 1 = omega
+        (arith, i .home-low, i .remainder-low, j .remainder-low) in
         let scaled : suc (e .homePlace - 1) * remainders sh ≤ (f .homePlace - 1) * remainders sh =
         mul-le-mul-right (remainders sh) lower in
         omega (arith, suc-mul (e .homePlace - 1) (remainders sh), i .remainder-low)

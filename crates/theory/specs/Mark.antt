@@ -83,7 +83,11 @@ ends-before :
 unfolding endsGroup sameHome
 ends-before e f low h none = rw (ne-eqb (f .homePlace) (e .homePlace) (λ k. omega arith))
 ends-before e f low h (next {e = g} p q r s) =
-    rw (ne-eqb (f .homePlace) (e .homePlace) (λ k. omega arith), ne-eqb (f .homePlace) (g .homePlace) (λ k. omega arith))
+    rw (
+      ne-eqb (f .homePlace) (e .homePlace) (λ k. omega arith),
+      ne-eqb (f .homePlace) (g .homePlace)
+          (λ k. omega arith),
+    )
 
 module _
     {d c : ℕ} (low : d ≤ 4096) (e f : Entry) (x : e .remainder < d) (y : f .remainder < d) (l : code f < code e) where

@@ -356,7 +356,8 @@ module _ {sh : Shape} {ws : List Word} {e : Entry} (a : Addable sh ws e) where
         ≡ finish
         (fillAt (e .remainder) ws (gap side (occupiedPlaces ws) (e .homePlace)))
         (gap side (occupiedPlaces ws) (e .homePlace))
-        (enlargedFrom ws (e .homePlace) (gap side (occupiedPlaces ws) (e .homePlace)) + smaller e (clusterEntries ws (e .homePlace)))
+        (enlargedFrom ws (e .homePlace) (gap side (occupiedPlaces ws) (e .homePlace))
+        + smaller e (clusterEntries ws (e .homePlace)))
         (markOf e (clusterEntries ws (e .homePlace)))
         (e .homePlace)
     add-moves side = rw (end-gap side) at (add-end side)

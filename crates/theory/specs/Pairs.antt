@@ -139,7 +139,8 @@ table-tight {d} {es = es} (table {g = g} {v = v} void right) =
     subst (λ (o : Bool). Tight d (o ∷ occupiedPlaces v) es) (sym (void-free g void)) (tight (right-tight right))
 
 pub table-lay :
-    {d : ℕ} {ws : List Word} {es : List Entry} → d ≤ 4096 → Table d ws es → lay es 0 (occupiedPlaces ws) es ≡ map unlock ws
+    {d : ℕ} {ws : List Word} {es : List Entry} → d ≤ 4096 → Table d ws es →
+    lay es 0 (occupiedPlaces ws) es ≡ map unlock ws
 unfolding occupiedPlaces lay
 table-lay {es = es} s (table {g = g} {v = v} void right) =
     ap (λ (o : Bool). lay es 0 (o ∷ occupiedPlaces v) es) (void-free g void)
@@ -303,7 +304,8 @@ lay-free whole p os es = ap locked (sym (lay-unlocked whole p os es)) ∙ unlock
 pub table-unique :
     {d : ℕ} {ws vs : List Word} {es : List Entry} →
     d ≤ 4096 →
-    Table d ws es → locked ws ≡ false → Table d vs es → locked vs ≡ false → occupiedPlaces ws ≡ occupiedPlaces vs → ws ≡ vs
+    Table d ws es → locked ws ≡ false → Table d vs es → locked vs ≡ false → occupiedPlaces ws ≡ occupiedPlaces vs →
+    ws ≡ vs
 table-unique {ws = ws} {vs} {es} s t free u also same =
     sym (unlocked-same ws free)
     ∙ sym (table-lay s t)

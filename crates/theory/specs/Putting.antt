@@ -156,14 +156,16 @@ added-left :
     d ≤ 4096 →
     e .remainder < d →
     holds e (t .ys) ≡ false →
-    0 < length (t .u) → Added d ws es e (leftGap (occupiedPlaces ws) (e .homePlace)) (addAt ws e (leftGap (occupiedPlaces ws) (e .homePlace)))
+    0 < length (t .u) → Added d ws es e (leftGap (occupiedPlaces ws) (e .homePlace))
+    (addAt ws e (leftGap (occupiedPlaces ws) (e .homePlace)))
 unfolding enlargedFrom
 added-left {d} {ws} {es} e t look s low absent some =
     subst₂
     (Added d ws es e)
     (sym (look .left))
     (sym
-    (add-from ws e (leftGap (occupiedPlaces ws) (e .homePlace)) (length (t .u)) (t .ys) (omega (arith, look .left)) (look .entries)
+    (add-from ws e (leftGap (occupiedPlaces ws) (e .homePlace)) (length (t .u)) (t .ys) (omega (arith, look .left))
+    (look .entries)
     ∙ ap (λ (vs : List Word). sets vs (length (t .u)) l) (t .words)
     ∙ spliced (t .u) (t .g ∷ t .run) (t .h ∷ t .v) l (length (t .u)) refl long))
     (add-left e t s low absent some)
@@ -181,7 +183,8 @@ added-right :
     e .remainder < d →
     holds e (t .ys) ≡ false →
     0 < length (t .v) →
-    Added d ws es e (rightGap (occupiedPlaces ws) (e .homePlace)) (addAt ws e (rightGap (occupiedPlaces ws) (e .homePlace)))
+    Added d ws es e (rightGap (occupiedPlaces ws) (e .homePlace))
+    (addAt ws e (rightGap (occupiedPlaces ws) (e .homePlace)))
 unfolding enlargedFrom
 added-right {d} {ws} {es} e t look s low absent more =
     subst₂
@@ -227,7 +230,8 @@ pub data Puts (sh : Shape) (ws : List Word) (es : List Entry) (e : Entry) : Outc
       holds e es ≡ false →
       roomFor sh (occupiedPlaces ws) (e .homePlace) ≡ place p →
       Added (remainders sh) ws es e p (addAt ws e p) → Puts sh ws es e (writes (says 2) (addAt ws e p))
-  overflow : holds e es ≡ false → roomFor sh (occupiedPlaces ws) (e .homePlace) ≡ full → Puts sh ws es e (keeps (refuses 8))
+  overflow : holds e es ≡ false → roomFor sh (occupiedPlaces ws) (e .homePlace) ≡ full →
+      Puts sh ws es e (keeps (refuses 8))
 
 pub table-guarded :
     (sh : Shape) {ws : List Word} {es : List Entry} →
@@ -256,7 +260,8 @@ module _ (sh : Shape) {ws : List Word} {es : List Entry} (e : Entry)
         roomFor sh (occupiedPlaces ws) (e .homePlace) ≡ r →
         Chosen gaps.left sh (occupiedPlaces ws) (e .homePlace) r → Puts sh ws es e (addTo ws e r)
     unfolding rightGuard
-    puts-gap x named c = go c (occupied-at ws (e .homePlace) ∙ ap (λ (q : ℕ). at ws q .occupied) (x .here) ∙ empty) named
+    puts-gap x named c = go c
+        (occupied-at ws (e .homePlace) ∙ ap (λ (q : ℕ). at ws q .occupied) (x .here) ∙ empty) named
       where
         empty : at ws (length (x .u)) .occupied ≡ false
         empty =
@@ -270,7 +275,8 @@ module _ (sh : Shape) {ws : List Word} {es : List Entry} (e : Entry)
         go :
             {r : Room} →
             Chosen gaps.left sh (occupiedPlaces ws) (e .homePlace) r →
-            Free (occupiedPlaces ws) (e .homePlace) → roomFor sh (occupiedPlaces ws) (e .homePlace) ≡ r → Puts sh ws es e (addTo ws e r)
+            Free (occupiedPlaces ws) (e .homePlace) → roomFor sh (occupiedPlaces ws) (e .homePlace) ≡ r →
+            Puts sh ws es e (addTo ws e r)
         go (gaps.homeAt f) free at-home =
             inserted (e .homePlace) absent at-home
             (added-home
@@ -324,14 +330,16 @@ module _ (sh : Shape) {ws : List Word} {es : List Entry} (e : Entry)
             at-home
             (added-left e x look s low not-here (omega (arith, look .left, n)))
         go (gaps.second y a n) at-home =
-            inserted (rightGap (occupiedPlaces ws) (e .homePlace)) absent at-home (added-right e x look s low not-here (more n))
+            inserted (rightGap (occupiedPlaces ws) (e .homePlace)) absent at-home
+            (added-right e x look s low not-here (more n))
         go (gaps.none y a b) at-home = overflow absent at-home
 
     puts-absent : Puts sh ws es e (addTo ws e (roomFor sh (occupiedPlaces ws) (e .homePlace)))
     unfolding places
     puts-absent = go (locate (e .homePlace) t (omega (arith, k .last)))
       where
-        go : Located (remainders sh) ws es (e .homePlace) → Puts sh ws es e (addTo ws e (roomFor sh (occupiedPlaces ws) (e .homePlace)))
+        go : Located (remainders sh) ws es (e .homePlace) →
+            Puts sh ws es e (addTo ws e (roomFor sh (occupiedPlaces ws) (e .homePlace)))
         go (at-gap x) = puts-gap x refl (room-chosen sh (occupiedPlaces ws) (e .homePlace))
         go (in-run x) = puts-run x refl (room-chosen sh (occupiedPlaces ws) (e .homePlace))
 

@@ -280,7 +280,8 @@ laid-out d a (e ∷ es) s (next b l u up) =
       homes = e .homePlace ∷ later e es;
       here =
           lay-virgins (e ∷ es) a (e ∷ es)
-          ∙ pick-rising (hasHome (e ∷ es)) (length (e ∷ es)) a (a + length (e ∷ es)) (e .homePlace ∷ later e es) (le-refl _)
+          ∙ pick-rising (hasHome (e ∷ es)) (length (e ∷ es)) a (a + length (e ∷ es)) (e .homePlace ∷ later e es)
+          (le-refl _)
           (rising-next from u (later-rising e es s (next b l u up) (suc (e .homePlace)) (le-refl _)))
           (λ x le. dealt-homes x cards);
       given = cards;

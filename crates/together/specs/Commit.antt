@@ -208,27 +208,32 @@ module _ {sh : Shape} {ws : List Word} {ts : List Task} {laid : List Word} {show
             ≡ end (y .side) (t .left) (t .right)
         gap-is = ap₂ (end (y .side)) (see .left) (see .right)
 
-        hand-is : end (y .side) (leftGap (occupiedPlaces laid) (e .homePlace)) (rightGap (occupiedPlaces laid) (e .homePlace)) ≡ t .hand
+        hand-is : end (y .side) (leftGap (occupiedPlaces laid) (e .homePlace))
+            (rightGap (occupiedPlaces laid) (e .homePlace)) ≡ t .hand
         hand-is = gap-is ∙ sym (y .hand)
 
         goal-is :
             enlargedFrom
             laid
             (e .homePlace)
-            (end (y .side) (leftGap (occupiedPlaces laid) (e .homePlace)) (rightGap (occupiedPlaces laid) (e .homePlace)))
-            + smaller e (entriesBetween laid (leftGap (occupiedPlaces laid) (e .homePlace)) (rightGap (occupiedPlaces laid) (e .homePlace)))
+            (end (y .side) (leftGap (occupiedPlaces laid) (e .homePlace))
+            (rightGap (occupiedPlaces laid) (e .homePlace)))
+            + smaller e (entriesBetween laid (leftGap (occupiedPlaces laid) (e .homePlace))
+            (rightGap (occupiedPlaces laid) (e .homePlace)))
             ≡ t .goal
         goal-is =
             ap
             (λ (n : ℕ).
             n
-            + smaller e (entriesBetween laid (leftGap (occupiedPlaces laid) (e .homePlace)) (rightGap (occupiedPlaces laid) (e .homePlace))))
+            + smaller e (entriesBetween laid (leftGap (occupiedPlaces laid) (e .homePlace))
+            (rightGap (occupiedPlaces laid) (e .homePlace))))
             (begins-from addable home-taken (y .side))
             ∙ ap₂ (λ (l r : ℕ). from (y .side) l + smaller e (entriesBetween laid l r)) (see .left) (see .right)
             ∙ sym (y .goal)
 
         mark-is :
-            markOf e (entriesBetween laid (leftGap (occupiedPlaces laid) (e .homePlace)) (rightGap (occupiedPlaces laid) (e .homePlace)))
+            markOf e (entriesBetween laid (leftGap (occupiedPlaces laid) (e .homePlace))
+            (rightGap (occupiedPlaces laid) (e .homePlace)))
             ≡ t .mark
         mark-is = ap₂ (λ (l r : ℕ). markOf e (entriesBetween laid l r)) (see .left) (see .right) ∙ sym (y .mark)
 
@@ -618,7 +623,8 @@ home-below : (sh : Shape) (h : ℕ) → h ≤ homes sh → h ≤ rightGuard sh
 unfolding rightGuard
 home-below sh h le = omega arith
 
-occupied-set : (ws : List Word) (p : ℕ) (w : Word) → occupiedPlaces (set ws p w) ≡ set (occupiedPlaces ws) p (w .occupied)
+occupied-set : (ws : List Word) (p : ℕ) (w : Word) →
+    occupiedPlaces (set ws p w) ≡ set (occupiedPlaces ws) p (w .occupied)
 unfolding occupiedPlaces
 occupied-set [] p w = refl
 occupied-set (v ∷ ws) zero w = refl
@@ -709,7 +715,8 @@ module _ {sh : Shape} {ws : List Word} {ts : List Task} {laid : List Word} {show
     home-unowned : (u : Task) → InPhase sh ws laid shown u → Owns u (e₁ .homePlace) → ⊥
     home-unowned u s o = true≢false (sym (owned-locked (e₁ .homePlace) s o) ∙ ap (λ (w : Word). w .lock) empty)
 
-    grown-frame : Frame sh ws laid shown grown (addAt laid e₁ (e₁ .homePlace)) (insert e₁ shown) (λ q. q ≡ e₁ .homePlace)
+    grown-frame : Frame sh ws laid shown grown (addAt laid e₁ (e₁ .homePlace)) (insert e₁ shown)
+        (λ q. q ≡ e₁ .homePlace)
     grown-frame =
         record {
           size = words-size low inv;
@@ -804,7 +811,8 @@ module _ {sh : Shape} {ws : List Word} {ts : List Task} {laid : List Word} {show
         free-hands q (by-right c d f) = omega arith
 
         grown-places : occupiedPlaces grown ≡ set (occupiedPlaces laid) (e₁ .homePlace) true
-        grown-places = occupied-set ws (e₁ .homePlace) alone ∙ ap (λ (os : List Bool). set os (e₁ .homePlace) true) (inv .places)
+        grown-places = occupied-set ws (e₁ .homePlace) alone
+            ∙ ap (λ (os : List Bool). set os (e₁ .homePlace) true) (inv .places)
 
         small : (q : ℕ) → (q ≡ e₁ .homePlace) ⊎ (q ≢ e₁ .homePlace) → at grown q .remainder < 4096
         small q (inl same) =

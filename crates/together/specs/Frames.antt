@@ -167,7 +167,8 @@ locks-at ws vs p e =
     ∙ ap (λ (bs : List Bool). getD bs p false) e
     ∙ List·getD-map (λ (w : Word). w .lock) vs p zeroWord
 
-pub occupied-same : (ws vs : List Word) (p : ℕ) → occupiedPlaces ws ≡ occupiedPlaces vs → at ws p .occupied ≡ at vs p .occupied
+pub occupied-same : (ws vs : List Word) (p : ℕ) → occupiedPlaces ws ≡ occupiedPlaces vs →
+    at ws p .occupied ≡ at vs p .occupied
 occupied-same ws vs p e = sym (occupied-at ws p) ∙ ap (λ (bs : List Bool). getD bs p false) e ∙ occupied-at vs p
 
 -- words with the same places occupied, place by place

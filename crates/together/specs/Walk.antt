@@ -76,7 +76,8 @@ pub record Walked (sh : Shape) (ws : List Word) (ts : List Task) (laid : List Wo
   -- an answer full is given only at a full table, for a key that it does not show
   pub full :
       next .answer ≡ 3 →
-      (taskAt ts i .answer ≡ 3) ⊎ (AllTaken sh (occupiedPlaces laid) × (holds (split sh (taskAt ts i .key)) shown ≡ false))
+      (taskAt ts i .answer ≡ 3)
+      ⊎ (AllTaken sh (occupiedPlaces laid) × (holds (split sh (taskAt ts i .key)) shown ≡ false))
   pub effect : Effect sh (taskAt ts i) next laid shown laid-after shown-after
 
 -- ---- a step, by its phase's number
@@ -230,7 +231,8 @@ module _ {sh : Shape} {ws : List Word} {ts : List Task} {laid : List Word} {show
     quiet-low t′ a b = keeps (weight-low t′ b ∙ sym (weight-low t a))
 
     -- phase 1: a locked home is waited for
-    pub walk-stay : t .phase ≡ 1 → t .key < keys sh → at ws (homePlaceOf sh t) .lock ≡ true → Walked sh ws ts laid shown i
+    pub walk-stay : t .phase ≡ 1 → t .key < keys sh → at ws (homePlaceOf sh t) .lock ≡ true →
+        Walked sh ws ts laid shown i
     unfolding phase.home
     walk-stay p k locked =
         record {
@@ -318,7 +320,8 @@ module _ {sh : Shape} {ws : List Word} {ts : List Task} {laid : List Word} {show
               taken = λ q a b. go q b (same-or-not (t .left) q) a;
             }
           where
-            go : (q : ℕ) → q ≤ split sh (t .key) .homePlace → (q ≡ t .left) ⊎ (q ≢ t .left) → t .left - 1 < q → Occupied ws q
+            go : (q : ℕ) → q ≤ split sh (t .key) .homePlace → (q ≡ t .left) ⊎ (q ≢ t .left) → t .left - 1 < q →
+                Occupied ws q
             go q b (inl e) a = subst (Occupied ws) (sym e) taken
             go q b (inr n) a = x .taken q (omega arith) b
 

@@ -200,7 +200,8 @@ module _ {M : Type 1} (𝓤 : URA M) (H : Heap 𝓤) (A : Atoms 𝓤) (W : Given
         use0 W (raw (None 𝓤 H A mem run .pre to-none)) goes-to-none $
         calls-at ! fm (None 𝓤 H A mem run) known-none to-none
         (and-then ! (held ! 23 refl) (and-then ! (held ! 21 refl) (and-then ! (held ! 19 refl) (no-more !))))
-        (λ v. answers ! tt none.ended (none.clauses 𝓤 H A mem run) to-none v (λ d _. doneSays d ≡ giveNone (shapeOf m r) key)
+        (λ v. answers ! tt none.ended (none.clauses 𝓤 H A mem run) to-none v
+        (λ d _. doneSays d ≡ giveNone (shapeOf m r) key)
         (λ _ _. id⊢ 𝓤 _) (λ d _ e is. drop ! $ drop ! $
         land ! (from ! (stop !)) (init ! 24 refl (done-typed 𝓤 H A W v d is)) $ returns ! (look ! 24 refl) $
         forget ! 8 refl $ forget ! 12 refl $ forget ! 14 refl $ forget ! 16 refl $ forget ! 18 refl $

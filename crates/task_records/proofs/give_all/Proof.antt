@@ -94,7 +94,8 @@ module _ {M : Type 1} (𝓤 : URA M) (H : Heap 𝓤) (A : Atoms 𝓤) (W : Given
   abbrev Post : Val → SProp 𝓤
   Post = walkOf 𝓤 H A all.ended stayed (all.clauses 𝓤 H A mem run) .post ((tt, tt, tt, a, vals), tt)
 
-  exits : (x : Kept) (v : Val) → Is kept x (v ∷ []) → leaves (doneSays (x .done)) (x .tasks) ≡ giveAll (shapeOf m r) key ys n i
+  exits : (x : Kept) (v : Val) → Is kept x (v ∷ []) →
+      leaves (doneSays (x .done)) (x .tasks) ≡ giveAll (shapeOf m r) key ys n i
       → ent 𝓤 (emp 𝓤) (Post v)
   exits x v is e =
       qed W [] ∵
@@ -206,7 +207,8 @@ module _ {M : Type 1} (𝓤 : URA M) (H : Heap 𝓤) (A : Atoms 𝓤) (W : Given
         use0 W (raw (None 𝓤 H A mem run .pre to-none)) goes-to-none $
         calls-at ! fm (None 𝓤 H A mem run) known-none to-none
         (and-then ! (held ! 25 refl) (and-then ! (held ! 23 refl) (and-then ! (held ! 21 refl) (no-more !))))
-        (λ v. answers ! tt none.ended (none.clauses 𝓤 H A mem run) to-none v (λ d _. doneSays d ≡ giveNone (shapeOf m r) key)
+        (λ v. answers ! tt none.ended (none.clauses 𝓤 H A mem run) to-none v
+        (λ d _. doneSays d ≡ giveNone (shapeOf m r) key)
         (λ _ _. id⊢ 𝓤 _) (λ d _ e is. drop ! $ drop ! $
         land ! (from ! (stop !)) (init ! 8 refl (done-typed 𝓤 H A W v d is)) $
         sets ! (agg ! (and-then ! (held ! 18 refl) (and-then ! (held ! 8 refl) (no-more !)))) 26 refl

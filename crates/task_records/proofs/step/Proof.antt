@@ -221,7 +221,8 @@ module _ {M : Type 1} (𝓤 : URA M) (H : Heap 𝓤) (A : Atoms 𝓤) (W : Given
         (and-then ! (held ! 35 refl) (and-then ! (held ! 33 refl)
         (and-then ! (held ! 17 refl) (and-then ! (held ! 25 refl) (and-then ! (held ! 11 refl) (no-more !))))))
         (λ v. answers ! tt at.ended (at.clauses 𝓤 H A mem run) to-at v
-        (λ y ws. leaves (doneSays (y .done)) (record { table = ws .1 .1 .0; task = y .task }) ≡ stepAt (shapeOf m r) bytes n t)
+        (λ y ws. leaves (doneSays (y .done)) (record { table = ws .1 .1 .0; task = y .task })
+        ≡ stepAt (shapeOf m r) bytes n t)
         (λ _ _. id⊢ 𝓤 _) (λ y ws e is′.
         -- the table's token, and its last bytes with their count, are put behind the others
         use1 W (‵ (flft κ₀ q₀) ⊛ ‵ ftrue) (id⊢ 𝓤 _) $ split ! $ move ! (2 ∷ []) $ fsplit ! $ drop ! $ fsplit ! $

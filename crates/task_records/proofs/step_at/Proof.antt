@@ -1,5 +1,5 @@
--- `step_at` meets its contract: with at most 16 records the turn of the crate `tasks`, else the answer where there is
--- none.
+-- `step_at` meets its contract: with at most 16 records the turn of the crate `task_step`, else the answer where
+-- there is none.
 -- Assumes nothing.
 use Rattle.task_records.specs.Calls.{beside, turn-beside, stepAt}
 use borrow.Author.Tests.{le-leb, lt-leb}
