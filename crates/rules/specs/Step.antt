@@ -18,19 +18,22 @@ use Rattle.rules.specs.Phase as phase
 use Rattle.rules.specs.Phase.{Step, to, unsound}
 
 -- what the phases 1 to 12 do, by number
+abbrev pub byNumber : ℕ → Shape → List Word → Task → Step
+byNumber n sh ws t =
+    cond (eqb n 1) (phase.home sh ws t)
+    (cond (eqb n 2) (phase.lookLeft sh ws t)
+    (cond (eqb n 3) (phase.lookRight sh ws t)
+    (cond (eqb n 4) (phase.lockLeft sh ws t)
+    (cond (eqb n 5) (phase.lockRight sh ws t)
+    (cond (eqb n 6) (phase.backOff sh ws t)
+    (cond (eqb n 7) (phase.read sh ws t)
+    (cond (eqb n 8) (phase.fillHand sh ws t)
+    (cond (eqb n 9) (phase.move sh ws t)
+    (cond (eqb n 10) (phase.mark sh ws t)
+    (cond (eqb n 11) (phase.freeLeft sh ws t) (phase.freeRight sh ws t)))))))))))
+
 unfoldable pub ofPhase : Shape → List Word → Task → Step
-ofPhase sh ws t =
-    cond (eqb (t .phase) 1) (phase.home sh ws t)
-    (cond (eqb (t .phase) 2) (phase.lookLeft sh ws t)
-    (cond (eqb (t .phase) 3) (phase.lookRight sh ws t)
-    (cond (eqb (t .phase) 4) (phase.lockLeft sh ws t)
-    (cond (eqb (t .phase) 5) (phase.lockRight sh ws t)
-    (cond (eqb (t .phase) 6) (phase.backOff sh ws t)
-    (cond (eqb (t .phase) 7) (phase.read sh ws t)
-    (cond (eqb (t .phase) 8) (phase.fillHand sh ws t)
-    (cond (eqb (t .phase) 9) (phase.move sh ws t)
-    (cond (eqb (t .phase) 10) (phase.mark sh ws t)
-    (cond (eqb (t .phase) 11) (phase.freeLeft sh ws t) (phase.freeRight sh ws t)))))))))))
+ofPhase sh ws t = byNumber (t .phase) sh ws t
 
 -- what a step leaves: the record and the words, or all as it was with the refusal's number
 pub data Stepped : Type 0 where

@@ -20,8 +20,8 @@ use Rattle.rules.specs.Table.{at, occupiedPlaces}
 use Rattle.rules.specs.Lay.{holds, insert}
 use Rattle.rules.specs.Record.{homePlaceOf, within, atRest, toPhase, withLeft, withRight, taskAt, again}
 use Rattle.rules.specs.Phase as phase
-use Rattle.rules.specs.Phase.{Step, to}
-use Rattle.rules.specs.Step.{ofPhase, steps, orUnsound, stepOf}
+use Rattle.rules.specs.Phase.{to}
+use Rattle.rules.specs.Step.{byNumber, ofPhase, steps, orUnsound, stepOf}
 use Rattle.table_words.specs.Split.{split-in-shape}
 use Rattle.theory.specs.Record.{not-resting}
 use Rattle.theory.specs.Dealt.{and-left, and-right}
@@ -81,20 +81,6 @@ pub record Walked (sh : Shape) (ws : List Word) (ts : List Task) (laid : List Wo
   pub effect : Effect sh (taskAt ts i) next laid shown laid-after shown-after
 
 -- ---- a step, by its phase's number
-abbrev byNumber : ℕ → Shape → List Word → Task → Step
-byNumber n sh ws t =
-    cond (eqb n 1) (phase.home sh ws t)
-    (cond (eqb n 2) (phase.lookLeft sh ws t)
-    (cond (eqb n 3) (phase.lookRight sh ws t)
-    (cond (eqb n 4) (phase.lockLeft sh ws t)
-    (cond (eqb n 5) (phase.lockRight sh ws t)
-    (cond (eqb n 6) (phase.backOff sh ws t)
-    (cond (eqb n 7) (phase.read sh ws t)
-    (cond (eqb n 8) (phase.fillHand sh ws t)
-    (cond (eqb n 9) (phase.move sh ws t)
-    (cond (eqb n 10) (phase.mark sh ws t)
-    (cond (eqb n 11) (phase.freeLeft sh ws t) (phase.freeRight sh ws t)))))))))))
-
 busy-not-rest : (t : Task) → 1 ≤ t .phase → t .phase ≤ 12 → atRest t ≡ false
 busy-not-rest t a b = not-resting t (⊎-elim (λ e. omega arith) (λ e. omega arith))
 
