@@ -126,8 +126,8 @@ endRows =
 pub ends-hold :
     map (λ (r : EndRow). shown (finish (runAt (r .stage) (length (r .begun))) (buffers (r .begun)))) endRows
     ≡ map (λ (r : EndRow). left (runAt Ended 0) (length (r .prints)) [] (r .prints)) endRows
-unfolding all homes places isDigit worth numberAfter number glyph wordDigits firstOf shapeInLimits tasksInLimits
-    inLimits goodFirst goodLine used firstLine frameLine lineIn atEnd atFront refusal heldLine lastLine finishGood finish
+unfolding all homes places isDigit worth numberAfter number glyph wordDigits firstOf shapeInLimits
+    tasksInLimits inLimits goodFirst goodLine used firstLine frameLine lineIn atEnd atFront refusal heldLine lastLine finishGood finish
 ends-hold = refl
 
 -- ---- the refusals, each at its limit
