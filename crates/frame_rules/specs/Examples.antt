@@ -1,6 +1,6 @@
 -- Document 01's example of the frame program, and small inputs worked out from its text, as rows of one table, and the
--- one claim that the definitions print what the paper says: the whole output of each input. `table-lines`: a table's
--- line, read.
+-- one claim that the definitions print what the paper says: the whole output of each input. `first-lines`,
+-- `table-lines`: a first line and a table's line, read by themselves.
 -- Assumes nothing.
 use Prim.Native.Nat.{ℕ}
 use Prim.Native.Char.{code}
@@ -24,9 +24,10 @@ use Rattle.rules.specs.Phase.{movesOn, fillHand, neighbour, exchange, move, set
 use Rattle.rules.specs.Phase.{freeLeft, freeRight}
 use Rattle.rules.specs.Step.{ofPhase, stepOf, step}
 use Rattle.rules.specs.Give.{given, giveTo, give}
+use Rattle.frame_rules.specs.declared.FirstLine.the-variants.{Good, Bad}
 use Rattle.frame_rules.specs.Digits.{isDigit, worth, numberAfter, number, glyph, digitsOf, wordDigits}
-use Rattle.frame_rules.specs.Lines.{linesAfter, linesOf, firstOf, shapeInLimits, tasksInLimits, inLimits}
-use Rattle.frame_rules.specs.Lines.{goodFirst, firstKeys, keysOf, goodLine}
+use Rattle.frame_rules.specs.Lines.{linesAfter, linesOf, firstOf, shapeInLimits, tasksInLimits, inLimits, first}
+use Rattle.frame_rules.specs.Lines.{goodFirst, readFirst, firstKeys, keysOf, goodLine}
 use Rattle.frame_rules.specs.TableLine.{goodTableLine, firstWords, tableOfLine, TableRead, tableRead, readTable}
 use Rattle.frame_rules.specs.Rounds.{start, turn, turns, round, allAnswered, rounds, limit, play}
 use Rattle.frame_rules.specs.Frame.{dawn, used, firstLine, playedLine, frameLine, lineIn, atEnd, outputFrom}
@@ -105,6 +106,13 @@ unfolding count all any wordOf numberOf isVoid isZero isLock wordsOf bytesOf inR
     linesAfter linesOf firstOf shapeInLimits tasksInLimits inLimits goodFirst firstKeys keysOf goodLine start turn
     turns round allAnswered rounds limit play dawn used firstLine playedLine frameLine lineIn atEnd outputFrom output
 rows-hold = refl
+
+-- first lines, read by themselves
+pub first-lines :
+    map (λ (text : String). readFirst (bytes text)) ("030402" ∷ "0e0C10" ∷ "0F0C10" ∷ "0304020" ∷ "03040G" ∷ "" ∷ [])
+    ≡ Good (first 3 4 2) ∷ Good (first 14 12 16) ∷ Bad ∷ Bad ∷ Bad ∷ Bad ∷ []
+unfolding all isDigit worth numberAfter number firstOf shapeInLimits tasksInLimits inLimits goodFirst readFirst
+first-lines = refl
 
 -- a table's line, shape 1, 1, read over n bytes of 1; and what a bad line leaves of them
 abbrev readOver : ℕ → String → TableRead
