@@ -47,12 +47,13 @@ fn readable(sh: Shape, table: &[u8], t: Task) -> bool
 fn aimed(t: Task, hand: u32, goal: u32, mark: u8) -> Task
     ensures { λ u. ⌜ u ≡ phase.aimed hand goal mark t ⌝ }
 {
-    let mut u = t;
-    u.phase = 8;
-    u.hand = hand;
-    u.goal = goal;
-    u.mark = mark;
-    u
+    Task {
+        phase: 8,
+        hand: hand,
+        goal: goal,
+        mark: mark,
+        ..t
+    }
 }
 
 // The record that follows: the key is there, or the end that is filled and the goal, or there is no room.

@@ -1,6 +1,10 @@
 // Phases 1 to 6: a busy task looks for the ends of its home's cluster and locks both, or fills an empty home.
 use crate::Busy;
 use crate::record::again;
+use crate::record::to_phase;
+use crate::record::with_answer;
+use crate::record::with_left;
+use crate::record::with_right;
 use rules::Refusal;
 use rules::Shape;
 use rules::Turn;
@@ -25,23 +29,20 @@ impl Busy {
         requires { ⌜ Ready 1 sh (now table) (self .0) ⌝ }
         ensures { λ turn. ⌜ Follows phase.home sh (self .0) (now (table .entry)) turn (now (table .exit)) ⌝ }
     {
-        let mut t = self.0;
+        let t = self.0;
         let h = home_place(sh, t.key);
         let w = word_at(table, h);
+        // It begins again, and is there already.
         if lock(w) {
-            return Turn::Next(again(t));
+            return Turn::Next(t);
         }
         if is_zero(w) {
             let alone = alone_word(remainder_of(sh, t.key));
             set_word(table, h, alone);
-            t.phase = 13;
-            t.answer = 2;
-            return Turn::Next(t);
+            return Turn::Next(to_phase(with_answer(t, 2), 13));
         }
         if occupied(w) {
-            t.phase = 2;
-            t.left = left_of(h).0;
-            return Turn::Next(t);
+            return Turn::Next(to_phase(with_left(t, left_of(h)), 2));
         }
         Turn::Refused(Refusal::Unsound)
     }
@@ -50,41 +51,36 @@ impl Busy {
         requires { ⌜ Ready 2 sh (now table) (self .0) ⌝ }
         ensures { λ turn. ⌜ Follows phase.lookLeft sh (self .0) (now (table .entry)) turn (now (table .entry)) ⌝ }
     {
-        let mut t = self.0;
+        let t = self.0;
         let left = Place(t.left);
         if occupied(word_at(table, left)) {
-            t.left = left_of(left).0;
-            return Turn::Next(t);
+            return Turn::Next(with_left(t, left_of(left)));
         }
-        t.phase = 3;
-        t.right = right_of(home_place(sh, t.key)).0;
-        Turn::Next(t)
+        let h = home_place(sh, t.key);
+        Turn::Next(to_phase(with_right(t, right_of(h)), 3))
     }
 
     pub fn look_right(self, sh: Shape, table: &[u8]) -> Turn
         requires { ⌜ Ready 3 sh (now table) (self .0) ⌝ }
         ensures { λ turn. ⌜ Follows phase.lookRight sh (self .0) (now (table .entry)) turn (now (table .entry)) ⌝ }
     {
-        let mut t = self.0;
+        let t = self.0;
         let right = Place(t.right);
         if occupied(word_at(table, right)) {
-            t.right = right_of(right).0;
-            return Turn::Next(t);
+            return Turn::Next(with_right(t, right_of(right)));
         }
-        t.phase = 4;
-        Turn::Next(t)
+        Turn::Next(to_phase(t, 4))
     }
 
     pub fn lock_left(self, sh: Shape, table: &mut [u8]) -> Turn
         requires { ⌜ Ready 4 sh (now table) (self .0) ⌝ }
         ensures { λ turn. ⌜ Follows phase.lockLeft sh (self .0) (now (table .entry)) turn (now (table .exit)) ⌝ }
     {
-        let mut t = self.0;
+        let t = self.0;
         let left = Place(t.left);
         if is_zero(word_at(table, left)) {
             set_lock(table, left, true);
-            t.phase = 5;
-            return Turn::Next(t);
+            return Turn::Next(to_phase(t, 5));
         }
         Turn::Next(again(t))
     }
@@ -93,15 +89,13 @@ impl Busy {
         requires { ⌜ Ready 5 sh (now table) (self .0) ⌝ }
         ensures { λ turn. ⌜ Follows phase.lockRight sh (self .0) (now (table .entry)) turn (now (table .exit)) ⌝ }
     {
-        let mut t = self.0;
+        let t = self.0;
         let right = Place(t.right);
         if is_zero(word_at(table, right)) {
             set_lock(table, right, true);
-            t.phase = 7;
-            return Turn::Next(t);
+            return Turn::Next(to_phase(t, 7));
         }
-        t.phase = 6;
-        Turn::Next(t)
+        Turn::Next(to_phase(t, 6))
     }
 
     pub fn back_off(self, sh: Shape, table: &mut [u8]) -> Turn

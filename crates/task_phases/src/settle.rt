@@ -2,6 +2,8 @@
 use crate::Busy;
 use crate::record::answered;
 use crate::record::moves_on;
+use crate::record::to_phase;
+use crate::record::with_hand;
 use rules::Refusal;
 use rules::Shape;
 use rules::Turn;
@@ -38,13 +40,12 @@ impl Busy {
         requires { ⌜ Ready 9 sh (now table) (self .0) ⌝ }
         ensures { λ turn. ⌜ Follows phase.move sh (self .0) (now (table .entry)) turn (now (table .exit)) ⌝ }
     {
-        let mut t = self.0;
+        let t = self.0;
         let hand = Place(t.hand);
         let next = toward(hand, Place(t.goal));
         if occupied(word_at(table, next)) {
             exchange(table, hand, next);
-            t.hand = next.0;
-            return Turn::Next(moves_on(t));
+            return Turn::Next(moves_on(with_hand(t, next)));
         }
         Turn::Refused(Refusal::Unsound)
     }
@@ -62,19 +63,17 @@ impl Busy {
         requires { ⌜ Ready 11 sh (now table) (self .0) ⌝ }
         ensures { λ turn. ⌜ Follows phase.freeLeft sh (self .0) (now (table .entry)) turn (now (table .exit)) ⌝ }
     {
-        let mut t = self.0;
+        let t = self.0;
         set_lock(table, Place(t.left), false);
-        t.phase = 12;
-        Turn::Next(t)
+        Turn::Next(to_phase(t, 12))
     }
 
     pub fn free_right(self, sh: Shape, table: &mut [u8]) -> Turn
         requires { ⌜ Ready 12 sh (now table) (self .0) ⌝ }
         ensures { λ turn. ⌜ Follows phase.freeRight sh (self .0) (now (table .entry)) turn (now (table .exit)) ⌝ }
     {
-        let mut t = self.0;
+        let t = self.0;
         set_lock(table, Place(t.right), false);
-        t.phase = 13;
-        Turn::Next(t)
+        Turn::Next(to_phase(t, 13))
     }
 }

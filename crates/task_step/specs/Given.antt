@@ -1,4 +1,4 @@
--- Give on one record (01, Tasks and their steps), and a turn read as the paper's answer with the record that is left.
+-- Give on one record (01, Tasks and their steps).
 -- `give-one`: the rules' give is give on the record of the task number, stored back.
 -- Assumes nothing.
 use Prim.Native.Nat.{ℕ}
@@ -9,17 +9,10 @@ use lib.Seq.{set-getD}
 use lib.Dec.{ltb}
 use Rattle.rules.specs.declared.Shape.{Shape}
 use Rattle.rules.specs.declared.Task.{Task}
-use Rattle.rules.specs.declared.Turn.{Turn}
-use Rattle.rules.specs.declared.Turn.the-variants.{Next, Refused}
 use Rattle.rules.specs.Shape.{inRange, keys}
-use Rattle.rules.specs.Answer.{says, refuses, numberOfRefusal, Leaves, leaves}
+use Rattle.rules.specs.Answer.{refuses, Leaves, leaves}
 use Rattle.rules.specs.Give.{giveTo, storedAt, give}
 use Rattle.rules.specs.Record.{noTask, taskAt, goodTask}
-
--- a turn says 0 and the record that follows, or a refusal's number and the record as it was
-abbrev pub turnSays : Task → Turn → Leaves Task
-turnSays t (Next u) = leaves (says 0) u
-turnSays t (Refused n) = leaves (refuses (numberOfRefusal n)) t
 
 -- give (the shape, key, the record)
 unfoldable pub giveOne : Shape → ℕ → Task → Leaves Task

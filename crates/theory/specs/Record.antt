@@ -1,9 +1,9 @@
 -- A record at rest or busy, by its phase. `resting` to `done-or-beyond`: the tests by the phase; `rest-phase`,
 -- `works-phase`: the phase by the test. `rest-not-busy`, `fits-works`: what the tests tell of one another.
--- `good-task`: one of at most sixteen records has a good number.
+-- `good-task`: one of at most sixteen records has a good number. `again-stays`: to begin again in phase 1 is to stay.
 -- Assumes nothing.
 use Prim.Native.Nat.{ℕ, _≤_, _<_}
-use mathlib.Core.Path.{_≡_, refl}
+use mathlib.Core.Path.{_≡_, refl, sym, ap}
 use mathlib.Core.Bool.{Bool, true, false, _||_, and-eq-true-iff, true≢false, false≢true}
 use mathlib.Core.Logic.{_⊎_, inl, inr}
 use mathlib.Core.List.{List}
@@ -13,7 +13,7 @@ use lib.Dec.{eqb}
 use borrow.Author.Tests.{le-leb, lt-leb, lt-ltb, ne-eqb, eqb-true, eqb-false}
 use Rattle.rules.specs.declared.Shape.{Shape}
 use Rattle.rules.specs.declared.Task.{Task}
-use Rattle.rules.specs.Record.{busy, atRest, fitsBusy, fits, goodTask}
+use Rattle.rules.specs.Record.{busy, atRest, fitsBusy, fits, goodTask, toPhase, again}
 
 pub good-task : (ts : List Task) (i : ℕ) → length ts ≤ 16 → i < length ts → goodTask ts i ≡ true
 unfolding goodTask
@@ -82,3 +82,6 @@ module _ (t : Task) where
   pub fits-works : (sh : Shape) → fits sh t ≡ true → atRest t ≡ false → (busy t ≡ true) × (fitsBusy sh t ≡ true)
   unfolding fits
   fits-works sh e works = and-eq-true-iff (busy t) (fitsBusy sh t) .0 (rw works at e)
+
+pub again-stays : (t : Task) → t .phase ≡ 1 → again t ≡ t
+again-stays t e = ap (λ (n : ℕ). toPhase n t) (sym e)

@@ -1,6 +1,6 @@
 -- The invariant of demand 3. Beside the table's words stands a plain table, `laid`: the words as they would be with
 -- every move finished and every lock cleared. A key is put into `laid` at the moment its task fills a place (phase 1
--- on an empty home, phase 8). `Stage` says of one task, phase by phase, what it may rely on; `Apart` of two tasks
+-- on an empty home, phase 8). `InPhase` says of one task, phase by phase, what it may rely on; `Apart` of two tasks
 -- what they do not share; `Inv` joins them.
 -- Assumes nothing.
 use Prim.Native.Nat.{ℕ, _+_, _≤_, _<_}

@@ -9,6 +9,7 @@ use Rattle.rules.specs.Entry.{split}
 use Rattle.rules.specs.Table.{at}
 use Rattle.rules.specs.Record.{homePlaceOf}
 use Rattle.rules.specs.Phase.{home}
+use Rattle.theory.specs.Record.{again-stays}
 use Rattle.task_fits.specs.Taken.{tells}
 use Rattle.task_fits.specs.Ready.{home-low, home-inside, remainder-small}
 use Rattle.task_phases.proofs.Busy.home.Statement.{statement}
@@ -33,18 +34,16 @@ home-word c = rw (← c .before .before .home-place .ensures) (c .word-at .ensur
 lock-requires : tie.Need-lock-requires
 lock-requires c κs = search needs
 
-again-requires : tie.Need-again-requires
-again-requires c κs = search needs
-
 same-length : tie.Need-same-length
 same-length c = search needs
 
 returns : tie.Need-returns
 unfolding home
 returns c =
-    let tested = c .before .before in
-    rw (tells (λ w. w .lock) (tested .lock .ensures) (home-word (tested .before)) (c .before .if1 .taken))
-    (rw (c .again .ensures))
+    let tested = c .before in
+    let start = tested .before .before .before .before .before .before in
+    rw (tells (λ w. w .lock) (tested .lock .ensures) (home-word (tested .before)) (c .if1 .taken))
+    (rw (again-stays (start .args .self .0) (start .pre .phase)))
 
 is-zero-requires : tie.Need-is-zero-requires
 is-zero-requires c κs = search needs
@@ -64,20 +63,28 @@ set-word-requires c κs =
     (home-inside
     (c .before .before .before .before .before .before .before .before .before .before .before .before .pre))
 
+with-answer-requires : tie.Need-with-answer-requires
+with-answer-requires c κs = search needs
+
+to-phase-requires : tie.Need-to-phase-requires
+to-phase-requires c κs = search needs
+
 same-length-2 : tie.Need-same-length-2
 same-length-2 c = search needs
 
 returns-2 : tie.Need-returns-2
 unfolding home homePlaceOf split
 returns-2 c =
-    let tested = c .before .before .before .before .before .before .before in
+    let filled = c .before .before .before .before in
+    let tested = filled .before .before .before .before .before in
     let unlocked = tested .before .before in
     let word = home-word (unlocked .before) in
     let place = unlocked .before .before .before .home-place .ensures in
     rw (tells (λ w. w .lock) (unlocked .lock .ensures) word (tested .before .if1 .left))
-    (rw (tells isZero (tested .is-zero .ensures) word (c .before .before .before .before .before .before .if2 .taken))
-    (rw (← place, ← c .before .before .before .before .before .remainder-of .ensures)
-    (rw (c .before .before .set-word .ensures, c .before .before .before .before .alone-word .ensures))))
+    (rw (tells isZero (tested .is-zero .ensures) word (filled .before .before .before .before .if2 .taken))
+    (rw (c .to-phase .ensures, c .before .with-answer .ensures)
+    (rw (← place, ← filled .before .before .before .remainder-of .ensures)
+    (rw (filled .set-word .ensures, filled .before .before .alone-word .ensures)))))
 
 occupied-requires : tie.Need-occupied-requires
 occupied-requires c κs = search needs
@@ -88,20 +95,28 @@ left-of-requires c κs =
     rw (c .before .before .before .before .before .before .before .before .home-place .ensures)
     (home-low (c .before .before .before .before .before .before .before .before .before .before .before .pre))
 
+with-left-requires : tie.Need-with-left-requires
+with-left-requires c κs = search needs
+
+to-phase-requires-2 : tie.Need-to-phase-requires-2
+to-phase-requires-2 c κs = search needs
+
 same-length-3 : tie.Need-same-length-3
 same-length-3 c = search needs
 
 returns-3 : tie.Need-returns-3
 unfolding home homePlaceOf
 returns-3 c =
-    let tested = c .before .before in
+    let placed = c .before .before in
+    let tested = placed .before .before in
     let zero = tested .before .before in
     let unlocked = zero .before .before in
     let word = home-word (unlocked .before) in
     rw (tells (λ w. w .lock) (unlocked .lock .ensures) word (zero .before .if1 .left))
     (rw (tells isZero (zero .is-zero .ensures) word (tested .before .if2 .left))
-    (rw (tells (λ w. w .occupied) (tested .occupied .ensures) word (c .before .if3 .taken))
-    (rw (c .left-of .ensures, unlocked .before .before .before .home-place .ensures))))
+    (rw (tells (λ w. w .occupied) (tested .occupied .ensures) word (placed .before .if3 .taken))
+    (rw (c .to-phase2 .ensures, c .before .with-left .ensures)
+    (rw (placed .left-of .ensures, unlocked .before .before .before .home-place .ensures)))))
 
 same-length-4 : tie.Need-same-length-4
 same-length-4 c = search needs
@@ -123,17 +138,20 @@ home-spec =
     home-place-requires
     word-at-requires
     lock-requires
-    again-requires
     same-length
     returns
     is-zero-requires
     remainder-of-requires
     alone-word-requires
     set-word-requires
+    with-answer-requires
+    to-phase-requires
     same-length-2
     returns-2
     occupied-requires
     left-of-requires
+    with-left-requires
+    to-phase-requires-2
     same-length-3
     returns-3
     same-length-4

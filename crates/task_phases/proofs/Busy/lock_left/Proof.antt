@@ -18,16 +18,19 @@ is-zero-requires c κs = search needs
 set-lock-requires : tie.Need-set-lock-requires
 set-lock-requires c κs = left-inside (c .before .before .before .before .before .before .before .pre) (omega arith)
 
+to-phase-requires : tie.Need-to-phase-requires
+to-phase-requires c κs = search needs
+
 same-length : tie.Need-same-length
 same-length c = search needs
 
 returns : tie.Need-returns
 unfolding lockLeft
 returns c =
-    let tested = c .before .before .before .before .before in
+    let tested = c .before .before .before .before .before .before in
     rw (tells isZero (tested .is-zero .ensures) (tested .before .word-at .ensures)
-    (c .before .before .before .before .if1 .taken))
-    (rw (c .before .before .set-lock .ensures))
+    (c .before .before .before .before .before .if1 .taken))
+    (rw (c .to-phase .ensures, c .before .before .before .set-lock .ensures))
 
 again-requires : tie.Need-again-requires
 again-requires c κs = search needs
@@ -49,6 +52,7 @@ lock-left-spec =
     word-at-requires
     is-zero-requires
     set-lock-requires
+    to-phase-requires
     same-length
     returns
     again-requires

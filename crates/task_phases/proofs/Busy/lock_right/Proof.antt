@@ -18,23 +18,32 @@ is-zero-requires c κs = search needs
 set-lock-requires : tie.Need-set-lock-requires
 set-lock-requires c κs = right-inside (c .before .before .before .before .before .before .before .pre) (omega arith)
 
+to-phase-requires : tie.Need-to-phase-requires
+to-phase-requires c κs = search needs
+
 same-length : tie.Need-same-length
 same-length c = search needs
 
 returns : tie.Need-returns
 unfolding lockRight
 returns c =
-    let tested = c .before .before .before .before .before in
+    let tested = c .before .before .before .before .before .before in
     rw (tells isZero (tested .is-zero .ensures) (tested .before .word-at .ensures)
-    (c .before .before .before .before .if1 .taken))
-    (rw (c .before .before .set-lock .ensures))
+    (c .before .before .before .before .before .if1 .taken))
+    (rw (c .to-phase .ensures, c .before .before .before .set-lock .ensures))
+
+to-phase-requires-2 : tie.Need-to-phase-requires-2
+to-phase-requires-2 c κs = search needs
 
 same-length-2 : tie.Need-same-length-2
 same-length-2 c = search needs
 
 returns-2 : tie.Need-returns-2
 unfolding lockRight
-returns-2 c = rw (tells isZero (c .before .is-zero .ensures) (c .before .before .word-at .ensures) (c .if1 .left))
+returns-2 c =
+    let tested = c .before .before in
+    rw (tells isZero (tested .is-zero .ensures) (tested .before .word-at .ensures) (c .before .if1 .left))
+    (rw (c .to-phase2 .ensures))
 
 pub lock-right-spec : {M : Type 1} → statement M
 lock-right-spec =
@@ -43,7 +52,9 @@ lock-right-spec =
     word-at-requires
     is-zero-requires
     set-lock-requires
+    to-phase-requires
     same-length
     returns
+    to-phase-requires-2
     same-length-2
     returns-2)

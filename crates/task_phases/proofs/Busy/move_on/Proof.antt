@@ -25,6 +25,9 @@ exchange-requires c κs =
     rw (c .before .before .before .before .before .toward .ensures)
     (hand-inside ready (omega arith) (omega arith), neighbour-inside ready refl)
 
+with-hand-requires : tie.Need-with-hand-requires
+with-hand-requires c κs = search needs
+
 moves-on-requires : tie.Need-moves-on-requires
 moves-on-requires c κs = search needs
 
@@ -34,11 +37,11 @@ same-length c = search needs
 returns : tie.Need-returns
 unfolding move
 returns c =
-    let tested = c .before .before .before .before .before .before in
-    rw (neighbour-toward, ← c .before .before .before .before .before .before .before .before .before .toward .ensures)
+    let tested = c .before .before .before .before .before .before .before in
+    rw (neighbour-toward, ← tested .before .before .before .toward .ensures)
     (rw (tells (λ w. w .occupied) (tested .occupied .ensures) (tested .before .word-at .ensures)
-    (c .before .before .before .before .before .if1 .taken))
-    (rw (c .moves-on .ensures, c .before .before .before .exchange .ensures)))
+    (c .before .before .before .before .before .before .if1 .taken))
+    (rw (c .moves-on .ensures, c .before .with-hand .ensures, c .before .before .before .before .exchange .ensures)))
 
 same-length-2 : tie.Need-same-length-2
 same-length-2 c = search needs
@@ -57,6 +60,7 @@ move-on-spec =
     word-at-requires
     occupied-requires
     exchange-requires
+    with-hand-requires
     moves-on-requires
     same-length
     returns
