@@ -1,5 +1,7 @@
 // The calls that the camera's firmware makes from C (01, Answers and their numbers): find, put and the fill figure.
 // They require nothing, since nobody checks what C passes; include/woollydusk.h declares them.
+#![tactic(auto)]
+
 ghost use Rattle.std.specs.Prelude.{◌≡◌};
 ghost use Rattle.rules.specs.Shape.{shape_of};
 ghost use Rattle.rules.specs.Find.{find as spec-find};

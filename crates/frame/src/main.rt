@@ -1,11 +1,13 @@
 // The frame program (01): reads standard input to its end and writes standard output. What it prints is the crate
 // frame_feed's; here are only the reads, the writes and the buffers.
+#![tactic(auto)]
+
 use frame_feed::feed::{begin, feed};
 use frame_feed::finish::finish;
 use frame_rules::{FeedAnswer, FinishAnswer, Run};
 
 // How far the input is: there is more, it has ended, or a read or a write has failed.
-#[derive(Drop)]
+#[derive(Clone, Copy)]
 enum Input {
     More,
     Ended,
@@ -13,7 +15,7 @@ enum Input {
 }
 
 // The run, and its input.
-#[derive(Drop)]
+#[derive(Clone, Copy)]
 struct State {
     pub run: Run,
     pub input: Input,

@@ -1,9 +1,11 @@
 // The line reader: it holds the lent bytes and the point it has reached. A function over the struct is thin and proved
 // by hand, since the work is in `length_from`, over the slice and a number. Callers take `next_line`.
+#![tactic(auto)]
+
 ghost use Rattle.std.specs.Prelude.{◌≡◌, ◌+◌, drop};
 ghost use Rattle.frame_rules.specs.Feed.{line_length};
 
-#[derive(Drop)]
+#[derive(Clone, Copy)]
 pub struct Reader<'a> {
     pub src: &'a [u8],
     pub at: usize,

@@ -58,7 +58,7 @@ module _ (f : First) (ks : List ℕ) (few : f.tasks ≤ 16) where
           ≡ floor_with f.tasks x.table x.answers (set ts i x.sitting.task) (set hs i x.sitting.serving)
           x.sitting.taken
       one x e =
-          turn_one f ks i (floor_with f.tasks table answers ts hs k) inside
+          turn_one_lem f ks i (floor_with f.tasks table answers ts hs k) inside
           (omega (arith, length-take-le f.tasks ts (omega arith)))
           ∙ rw (get_or-take f.tasks ts i no_task here, get_or-take f.tasks hs i 0 here, sym e)
           (rw (

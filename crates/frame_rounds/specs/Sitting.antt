@@ -111,9 +111,9 @@ module _ (f : First) (ks : List ℕ) (i : ℕ) (p : Floor) (here : i < length p.
     unfolding answered
     stepped (leaves a l) = rw (get_or-set_same p.tasks i l.task no_task here, set-get_or p.serving i 0)
 
-    pub turn_one : turn f ks i p ≡ put_back p i (turn_one f ks p.table p.answers (sitting_at p i))
+    pub turn_one_lem : turn f ks i p ≡ put_back p i (turn_one f ks p.table p.answers (sitting_at p i))
     unfolding turn turn_one take_next make_step
-    turn_one = go (at_rest (task_at p.tasks i)) (ltb p.taken (length ks))
+    turn_one_lem = go (at_rest (task_at p.tasks i)) (ltb p.taken (length ks))
       where
         go : (rest more : Bool) →
             cond rest

@@ -13,7 +13,7 @@ use frame_rules::First;
 use rules::Task;
 
 // Places for sixteen tasks, with the key that each holds, and how many keys are taken.
-#[derive(Drop)]
+#[derive(Clone, Copy)]
 pub struct Desk {
     pub tasks: [Task; 16],
     pub serving: [usize; 16],

@@ -14,7 +14,7 @@ use task_step::give::give;
 use task_step::step::step;
 
 // A task, which of the line's keys it holds (by number, from 0), and how many keys are taken.
-#[derive(Drop)]
+#[derive(Clone, Copy)]
 pub struct Sitting {
     pub task: Task,
     pub serving: usize,

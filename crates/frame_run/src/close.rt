@@ -13,7 +13,7 @@ use frame_rules::{Run, Stage};
 use table_words::shape::places;
 
 // The run that follows a line, and how much the line printed.
-#[derive(Drop)]
+#[derive(Clone, Copy)]
 pub struct Closed {
     pub run: Run,
     pub wrote: usize,

@@ -1,5 +1,7 @@
 // Build and list for C programs on a host (01, Answers and their numbers), in the form of the firmware's calls.
 // They require nothing, since nobody checks what C passes; include/woollydusk.h declares them.
+#![tactic(auto)]
+
 ghost use Rattle.std.specs.Prelude.{◌≡◌};
 ghost use Rattle.rules.specs.Shape.{shape_of};
 ghost use Rattle.rules.specs.Build.{build as spec-build};

@@ -1,15 +1,16 @@
 // The types of document 01: the shape, the task record, and what each call answers.
 // The rules themselves are definitions, in specs/; this crate has no function.
+#![tactic(auto)]
 
 // m home bits and r remainder bits.
-#[derive(Drop)]
+#[derive(Clone, Copy)]
 pub struct Shape {
     pub m: u32,
     pub r: u32,
 }
 
 // What a task is about: its key, its phase, the places it has reached, and its answer.
-#[derive(Drop)]
+#[derive(Clone, Copy)]
 pub struct Task {
     pub key: u32,
     pub phase: u8,
@@ -22,7 +23,7 @@ pub struct Task {
 }
 
 // Why a call is refused, in the order of the paper's numbers 1 to 9.
-#[derive(Drop)]
+#[derive(Clone, Copy)]
 pub enum Refusal {
     BadShape,
     BadKey,
@@ -35,41 +36,41 @@ pub enum Refusal {
     TooFewSlots,
 }
 
-#[derive(Drop)]
+#[derive(Clone, Copy)]
 pub enum FindAnswer {
     Absent,
     Present,
     Refused(Refusal),
 }
 
-#[derive(Drop)]
+#[derive(Clone, Copy)]
 pub enum PutAnswer {
     Found,
     Inserted,
     Refused(Refusal),
 }
 
-#[derive(Drop)]
+#[derive(Clone, Copy)]
 pub enum ListAnswer {
     Listed(usize),
     Refused(Refusal),
 }
 
-#[derive(Drop)]
+#[derive(Clone, Copy)]
 pub enum FillAnswer {
     Figure(u32),
     Refused(Refusal),
 }
 
 // The answer of a call that has nothing to say but that it was carried out: build, and give and step over lent records.
-#[derive(Drop)]
+#[derive(Clone, Copy)]
 pub enum Done {
     Accepted,
     Refused(Refusal),
 }
 
 // The answer of give and step on a record by value: the record that follows.
-#[derive(Drop)]
+#[derive(Clone, Copy)]
 pub enum Turn {
     Next(Task),
     Refused(Refusal),

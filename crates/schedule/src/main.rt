@@ -1,5 +1,7 @@
 // Plays a schedule of gives, steps and stored records, read from standard input line by line (docs/SCHEDULE.md). Each
 // action prints its refusal and the record that it leaves; the end prints the words.
+#![tactic(auto)]
+
 mod pieces;
 
 ghost use Rattle.std.specs.Prelude.{◌≡◌, ◌≤◌, length};

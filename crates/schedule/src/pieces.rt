@@ -6,7 +6,7 @@ ghost use Rattle.schedule.specs.Held.{Held};
 use test_schedule::run::{Run, ended, is_ended, line_in};
 
 // The run, how many bytes of the line begun are held, how many printed bytes wait, and whether to read on.
-#[derive(Drop)]
+#[derive(Clone, Copy)]
 pub struct State {
     pub run: Run,
     pub held: usize,

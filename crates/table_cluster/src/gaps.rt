@@ -36,7 +36,7 @@ pub fn right_gap(table: &[u8], p: Place) -> Place
 }
 
 // An end of a home's cluster: the gap there, and the virgin and change bits that were counted on the way to it.
-#[derive(Drop)]
+#[derive(Clone, Copy)]
 pub struct End {
     pub gap: Place,
     pub virgins: u32,

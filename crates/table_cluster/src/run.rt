@@ -79,7 +79,7 @@ pub fn sound_run(sh: Shape, table: &[u8], l: Place, r: Place) -> bool
 }
 
 // What a pass over a run tells.
-#[derive(Drop)]
+#[derive(Clone, Copy)]
 pub struct Check {
     pub sound: bool,
     pub locked: bool,

@@ -16,21 +16,21 @@ use table_words::shape::{places, remainders, right_guard};
 use table_words::word::{change, is_void, lock, occupied, remainder, virgin};
 
 // What the first pass tells: is each word in order with the next one, is any locked.
-#[derive(Drop)]
+#[derive(Clone, Copy)]
 struct Order {
     tidy: bool,
     locked: bool,
 }
 
 // What the second pass tells: are there as many homes as groups at each gap, and how many keys are there.
-#[derive(Drop)]
+#[derive(Clone, Copy)]
 struct Gaps {
     even: bool,
     keys: u32,
 }
 
 // What both tell.
-#[derive(Drop)]
+#[derive(Clone, Copy)]
 pub struct Check {
     pub sound: bool,
     pub locked: bool,

@@ -17,7 +17,7 @@ use table_words::shape::left_guard;
 use table_words::word::{change, occupied, remainder, virgin, with_change};
 
 // An occupied place and its word.
-#[derive(Drop)]
+#[derive(Clone, Copy)]
 struct Key {
     place: Place,
     word: u16,

@@ -1,5 +1,7 @@
 // The answers of the calls, each packed into one number for C: value + 2^56 × refusal number (specs/Packed.antt).
 // C has no enum that holds a number, so the refusal's number stands in the highest byte and the value below it.
+#![tactic(auto)]
+
 ghost use Rattle.std.specs.Prelude.{◌≡◌, ◌*◌, ◌<◌};
 ghost use Rattle.rules.specs.Answer.{number_of_refusal, find_says, put_says, list_says, fill_says, done_says, refuses};
 ghost use Rattle.table_packed.specs.Packed.{packed};

@@ -105,9 +105,9 @@ module _ (sh : Shape) (ws : List Word) (e : Entry)
     unfolding put_in
     put_locked s l = rw (s, l)
 
-    pub put_alone : Open sh ws e.home_place → (at ws e.home_place).occupied ≡ false → put_in sh ws e ≡ put_alone ws e
+    pub put_alone_lem : Open sh ws e.home_place → (at ws e.home_place).occupied ≡ false → put_in sh ws e ≡ put_alone ws e
     unfolding put_in room_for holds any
-    put_alone o empty =
+    put_alone_lem o empty =
         let none = gap_entries ws e.home_place empty in
         let a = addable range i size o (ap (holds e) none) in
         rw (o.sound, o.free, none, room_alone a empty, add_alone a empty)
@@ -127,7 +127,7 @@ module _ (sh : Shape) (ws : List Word) (e : Entry)
             put_in sh ws e ≡ cond v (cond l (keeps (refuses 7)) (put_alone ws e)) (keeps (refuses 6))
         go false l x y = put_unsound (sound_is ∙ x)
         go true true x y = put_locked (sound_is ∙ x) (locked_is ∙ y)
-        go true false x y = put_alone (record { sound = sound_is ∙ x; free = locked_is ∙ y }) empty
+        go true false x y = put_alone_lem (record { sound = sound_is ∙ x; free = locked_is ∙ y }) empty
 
     pub put_inside :
         Open sh ws e.home_place → (at ws e.home_place).occupied ≡ true →

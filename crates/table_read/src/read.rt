@@ -18,7 +18,7 @@ use table_words::word::{change, remainder, virgin};
 
 // Is the key there, how many keys are smaller, and the mark: 2 if its group is new, 1 if it is larger than all of its
 // group, else 0.
-#[derive(Drop)]
+#[derive(Clone, Copy)]
 pub struct Read {
     pub held: bool,
     pub smaller: u32,
@@ -27,7 +27,7 @@ pub struct Read {
 
 // What the keys passed so far tell: was the key among them, how many were smaller, was one of its group,
 // and was each of its group smaller.
-#[derive(Drop)]
+#[derive(Clone, Copy)]
 struct Seen {
     held: bool,
     smaller: u32,

@@ -3,10 +3,10 @@
 ghost use Rattle.std.specs.Prelude.{◌≡◌, ◌+◌, ◌-◌, ◌<◌};
 ghost use Rattle.rules.specs.Entry.{place_of_home, home_of_place};
 
-#[derive(Drop)]
+#[derive(Clone, Copy)]
 pub struct Home(pub u32);
 
-#[derive(Drop)]
+#[derive(Clone, Copy)]
 pub struct Place(pub u32);
 
 // The one conversion: it adds the guard.

@@ -1,5 +1,7 @@
 // Give and step over lent records (01, Tasks and their steps): one record is read, handed by value to the crate
 // `task_step`, and stored back. Sixteen records by value, lent for a call, for callers that have no slice of them.
+#![tactic(auto)]
+
 ghost use Rattle.std.specs.Prelude.{◌≡◌};
 ghost use Rattle.rules.specs.Shape.{shape_of};
 ghost use Rattle.rules.specs.Answer.{done_says, leaves, turn_says};
@@ -14,7 +16,7 @@ use task_step::give::give as give_one;
 use task_step::step::step as step_one;
 
 // A record as a call leaves it, beside its answer.
-#[derive(Drop)]
+#[derive(Clone, Copy)]
 struct After {
     pub task: Task,
     pub done: Done,
@@ -120,7 +122,7 @@ pub fn step(m: u32, r: u32, table: &mut [u8], tasks: &mut [Task], i: usize) -> D
 }
 
 // The sixteen records of a caller that keeps them by value, beside an answer.
-#[derive(Drop)]
+#[derive(Clone, Copy)]
 pub struct Kept {
     pub tasks: [Task; 16],
     pub done: Done,

@@ -1,5 +1,7 @@
 // The examples of document 01 (Examples) for build, list, find, put and the fill figure, one line for each call.
 // Whatever follows a colon is what the call answered and what it left in the table.
+#![tactic(auto)]
+
 use rules::{Done, FillAnswer, FindAnswer, ListAnswer, PutAnswer};
 use table_find::fill::fill;
 use table_find::find::find;

@@ -1,5 +1,7 @@
 // The lone task of document 01 (Examples): 35 alone in a table of shape 3, 4, and a task with 31, step by step.
 // One line for each step: its number, the phase after it, and each place whose word is not zero. Last, the answer.
+#![tactic(auto)]
+
 use rules::{Refusal, Task, Turn};
 use task_fits::record::no_task;
 use task_step::give::give;

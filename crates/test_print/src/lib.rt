@@ -1,5 +1,7 @@
 // What the example programs print: bytes, keys and words in capital hexadecimal digits, and a refusal by its number.
 // Nothing here is part of the table.
+#![tactic(auto)]
+
 ghost use Rattle.std.specs.Prelude.{◌<◌};
 
 use rules::Refusal;

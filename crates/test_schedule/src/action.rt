@@ -14,7 +14,7 @@ use task_fits::record::no_task;
 use task_records::{Kept, give_all, step_all};
 
 // The records after an action, and how many bytes it printed.
-#[derive(Drop)]
+#[derive(Clone, Copy)]
 pub struct Acted {
     pub tasks: [Task; 16],
     pub wrote: usize,

@@ -10,7 +10,7 @@ use frame_rules::{First, FirstLine};
 use rules::Task;
 use task_fits::record::no_task;
 
-#[derive(Drop)]
+#[derive(Clone, Copy)]
 pub enum Reached {
     AtFirst,
     AtSecond(First),
@@ -19,7 +19,7 @@ pub enum Reached {
 }
 
 // How far the run is, its records, and how many bytes the last line printed.
-#[derive(Drop)]
+#[derive(Clone, Copy)]
 pub struct Run {
     pub stage: Reached,
     pub tasks: [Task; 16],

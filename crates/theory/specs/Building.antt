@@ -94,7 +94,8 @@ pub subset_length :
 unfolding holds any
 subset_length [] s up [] b asc inside = omega arith
 subset_length [] s up (e ∷ es) b asc inside = absurd (false≢true (inside e (holds_head e es)))
-subset_length (u ∷ us) s (next p q r up) es b asc inside = subset_step u us es s q up asc inside (subset_length us s up)
+subset_length {d} {c} {c'} {b'} (u ∷ us) s (next p q r up) es b asc inside =
+    subset_step u us es s q up asc inside (subset_length {b' = suc (code u)} us s up)
 
 -- ---- a table with room
 -- entries that a table of the shape can hold, no more than it has homes

@@ -37,7 +37,7 @@ sites_beside right v a (suc n) h =
     (λ (ws : List Word). occupied_word 0 (v a) false ∷ ws)
     (sites_beside right v (suc a) n (ap v (let e : suc a + n ≡ a + suc n = omega arith in e) ∙ h))
 
-home_outside : {es : List Entry} (q : ℕ) → All (λ (f : Entry). f.home_place ≡ q → ⊥) es → has_home es q ≡ false
+home_outside : (q : ℕ) {es : List Entry} → All (λ (f : Entry). f.home_place ≡ q → ⊥) es → has_home es q ≡ false
 unfolding has_home any
 home_outside q every.none = refl
 home_outside q (every.both {x = f} h hs) = rw (ne_eqb f.home_place q h, home_outside q hs)

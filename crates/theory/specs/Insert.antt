@@ -288,7 +288,7 @@ insert_front e (f ∷ xs) {ys} low s h = go (precedes e f) (same_entry e f) refl
     go false false p q rest = rw (p, q) (ap (λ (zs : List Entry). f ∷ zs) rest)
 
 pub insert_back :
-    {xs : List Entry} (e : Entry) (ys : List Entry) → e.remainder < 4096 → Below (code e) xs →
+    (e : Entry) {xs : List Entry} (ys : List Entry) → e.remainder < 4096 → Below (code e) xs →
     insert e (xs ++ ys) ≡ xs ++ insert e ys
 unfolding insert
 insert_back e ys x every.none = refl

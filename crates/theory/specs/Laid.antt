@@ -132,7 +132,7 @@ recharge_past m t w ls above = go (eqb m 2) (eqb m 1) refl
 
 -- the key's payload among the others, after the mark
 pub recharged :
-    {d c m t : ℕ} {e : Entry} {es : List Entry} → Goes d c e m t es →
+    {d c : ℕ} {e : Entry} {m t : ℕ} {es : List Entry} → Goes d c e m t es →
     recharge m t (wedge t (occupied_word e.remainder false false) (payloads es)) ≡ payloads (wedge t e es)
 unfolding set_change ends_group
 recharged {e = e} (opens {es = es} a n) = rw (ends_alone e es n)
@@ -190,7 +190,7 @@ home_kept t e es q h = rw (home_wedge t e es q) (go (eqb e.home_place q) refl)
 
 -- an entry that opens no group finds its home there
 home_shared :
-    {d c m t : ℕ} {e : Entry} {es : List Entry} → Goes d c e m t es → (m ≡ 2 → ⊥) → has_home es e.home_place ≡ true
+    {d c : ℕ} {e : Entry} {m t : ℕ} {es : List Entry} → Goes d c e m t es → (m ≡ 2 → ⊥) → has_home es e.home_place ≡ true
 unfolding has_home any same_home
 home_shared (opens a n) h = absurd (h refl)
 home_shared {e = e} (joins {f = f} p) h = rw (same_sym e f p)

@@ -136,8 +136,8 @@ goes_between {d} {c} e [] (g ∷ es) low x (next p q r s) ls (every.both l ms) =
     go false h =
         let n = other_homes e s (omega (arith, eqb-false e.home_place g.home_place h)) low in
         rw (h, n) (opens (next l q r s) (rw (h, n)))
-goes_between e (f ∷ fs) back low x (next p q r s) (every.both l ls) ms =
-    goes_on low e f x q l s (goes_between e fs back low x s ls ms) refl
+goes_between {d} {c} {b} e (f ∷ fs) back low x (next p q r s) (every.both l ls) ms =
+    goes_on low e f x q l s (goes_between {b = suc (code f)} e fs back low x s ls ms) refl
 
 module _
     {d c b : ℕ} (e : Entry) {es : List Entry}

@@ -12,7 +12,7 @@ use Rattle.rules.specs.Shape.{remainders}
 use Rattle.rules.specs.Table.{ends_in_change, sound_run, virgin_places, deal}
 use Rattle.rules.specs.Lay.{has_home, ends_group, lay}
 use Rattle.rules.specs.Put.{lay_run}
-use Rattle.theory.specs.Run.{Asc, none, next, unlock, Run}
+use Rattle.theory.specs.Run.{Asc, none, next, unlock, Run, code}
 use Rattle.theory.specs.Dealt.{is_change, is_virgin, is_occupied, is_low, and_left, and_right, and_both, Least, Dealt}
 use Rattle.theory.specs.Dealt.{dealt_none, dealt_ends, dealt_goes, dealt, dealt_deal, dealt_count, dealt_size}
 use Rattle.theory.specs.Dealt.{dealt_ends_in_change, dealt_low, dealt_rising, dealt_homes, dealt_asc, dealt_lay}
@@ -145,9 +145,9 @@ later : Entry → List Entry → List ℕ
 later e [] = []
 later e (f ∷ es) = cond (same_home e f) (later f es) (f.home_place ∷ later f es)
 
-same_home : (e f : Entry) → same_home e f ≡ true → e.home_place ≡ f.home_place
+same_home_lem : (e f : Entry) → same_home e f ≡ true → e.home_place ≡ f.home_place
 unfolding same_home
-same_home e f same = eqb-true e.home_place f.home_place same
+same_home_lem e f same = eqb-true e.home_place f.home_place same
 
 other_home : (e f : Entry) → same_home e f ≡ false → e.home_place ≡ f.home_place → ⊥
 unfolding same_home
@@ -160,8 +160,8 @@ asc_dealt :
     Asc d c b (e ∷ es) → Dealt d (h ∷ later e es) (lay whole q (replicate (length (e ∷ es)) true) (e ∷ es)) (e ∷ es)
 unfolding later lay ends_group
 asc_dealt whole q h e [] p (next b l u none) = dealt_ends refl l p refl dealt_none
-asc_dealt {d} whole q h e (f ∷ es) p (next b l u (next b₁ l₁ u₁ up)) =
-    go (same_home e f) refl (λ g r. asc_dealt whole (suc q) g f es r (next b₁ l₁ u₁ up))
+asc_dealt {d} {b = low} whole q h e (f ∷ es) p (next b l u (next b₁ l₁ u₁ up)) =
+    go (same_home e f) refl (λ g r. asc_dealt {b = suc (code e)} whole (suc q) g f es r (next b₁ l₁ u₁ up))
   where
     go :
         (x : Bool) →
@@ -174,8 +174,8 @@ asc_dealt {d} whole q h e (f ∷ es) p (next b l u (next b₁ l₁ u₁ up)) =
         (lay whole q (replicate (length (e ∷ f ∷ es)) true) (e ∷ f ∷ es))
         (e ∷ f ∷ es)
     go true same rest =
-        let rises : e.remainder < f.remainder = omega (arith, same_home e f same) in
-        dealt_goes (ap not same) l rises p refl (rest h (omega (arith, same_home e f same)))
+        let rises : e.remainder < f.remainder = omega (arith, same_home_lem e f same) in
+        dealt_goes (ap not same) l rises p refl (rest h (omega (arith, same_home_lem e f same)))
     go false other rest = dealt_ends (ap not other) l p refl (rest f.home_place refl)
 
 later_rising :
@@ -183,15 +183,15 @@ later_rising :
     d ≤ 4096 → Asc d c b (e ∷ es) → (k : ℕ) → k ≤ suc e.home_place → Rising c k (later e es)
 unfolding later
 later_rising e [] s up k le = rising_none
-later_rising {c = c} e (f ∷ es) s (next b l u (next b₁ l₁ u₁ up)) k le =
-    go (same_home e f) refl (later_rising f es s (next b₁ l₁ u₁ up))
+later_rising {c = c} {b = low} e (f ∷ es) s (next b l u (next b₁ l₁ u₁ up)) k le =
+    go (same_home e f) refl (later_rising {b = suc (code e)} f es s (next b₁ l₁ u₁ up))
   where
     go :
         (x : Bool) →
         same_home e f ≡ x →
         ((j : ℕ) → j ≤ suc f.home_place → Rising c j (later f es)) →
         Rising c k (cond x (later f es) (f.home_place ∷ later f es))
-    go true same rest = rest k (omega (arith, same_home e f same))
+    go true same rest = rest k (omega (arith, same_home_lem e f same))
     go false other rest =
         let after : k ≤ f.home_place = omega (arith, other_home e f other) in
         rising_next after u₁ (rest (suc f.home_place) (le_refl _))
