@@ -373,7 +373,7 @@ put_all_plain [] t h = (t, refl)
 put_all_plain {sh} {bytes} (key ∷ ks) t h =
     let lt = ltb-true key (keys sh) (and_left (ltb key (keys sh)) _ h) in
     let one = put_plain t key lt in
-    let rest = put_all_plain ks one.table (and_right (ltb key (keys sh)) _ h) in
+    let rest = put_all_plain {bytes = left_by (put sh bytes key)} ks one.table (and_right (ltb key (keys sh)) _ h) in
     (rest.0, rest.1 ∙ ap (λ (ws : List Word). puts sh ws (entries_of sh ks)) one.words)
 
 -- ---- puts in any order

@@ -273,9 +273,9 @@ module _ {ks : List ℕ} {f : Floor} {accepted : List ℕ} {said : List Said} (b
       abbrev answers_done : List ℕ
       answers_done = set f.answers number t.answer
 
-      at_rest : at_rest t ≡ true
+      rests : at_rest t ≡ true
       unfolding at_rest
-      at_rest = or_right (eqb t.phase 0) _ done
+      rests = or_right (eqb t.phase 0) _ done
 
       hand_done :
           (j : ℕ) →
@@ -286,7 +286,7 @@ module _ {ks : List ℕ} {f : Floor} {accepted : List ℕ} {said : List Said} (b
       hand_done j l busy (inl e) =
           absurd
           (true≢false
-          (sym (ap at_rest (ap (task_at (set f.tasks i t)) e ∙ task_same f.tasks i t lt) ∙ at_rest) ∙ busy))
+          (sym (ap at_rest (ap (task_at (set f.tasks i t)) e ∙ task_same f.tasks i t lt) ∙ rests) ∙ busy))
       hand_done j l busy (inr n) =
           let before = was_busy j busy (inr n) in
           let h = b.hand j l before in

@@ -43,7 +43,7 @@ use Rattle.theory.specs.Moving.{Addable, add_end, begins_from, room_alone, add_a
 use Rattle.theory.specs.Building.{State, after_put, added_state, place≢full}
 use Rattle.together.specs.Frames.{Within, at_set, at_other, finish_before, finish_after, locks_at, occupied_same}
 use Rattle.together.specs.Invariant.{Occupied, Looked, Fills, MayFill, Moving, Owns, by_left, by_right, Reserves}
-use Rattle.together.specs.Invariant.{Apart, Unfinished, Inv, InPhase, at_rest, moving, marking}
+use Rattle.together.specs.Invariant.{Apart, Unfinished, Inv, InPhase, rests, moving, marking}
 use Rattle.together.specs.Stable.{Frame, LetsAlone, stage_stable, finish_same, from_ge, up_to_le, fills_as}
 use Rattle.together.specs.Update.{Steps, same_or_not}
 use Rattle.together.specs.Facts.{in_order, words_size, reserved_laid}
@@ -787,7 +787,7 @@ module _ {sh : Shape} {ws : List Word} {ts : List Task} {laid : List Word} {show
                 plain = put₁.state;
                 places = grown_places ∙ sym put₁.places_after;
                 small = λ q. small q (same_or_not e₁.home_place q);
-                stage = at_rest (inr refl);
+                stage = rests (inr refl);
                 others = λ u c s. stage_stable grown_frame u (grown_alone u c s) (fresh₁ u s) s;
                 apart = λ u c s. apart_less back (λ (r : Reserves next). absurd (omega (arith, r.to_10))) c;
                 owner = λ q is_locked. inr (sym (grown_locks q) ∙ is_locked, λ o. absurd (free_hands q o));

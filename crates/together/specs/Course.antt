@@ -10,7 +10,7 @@ use Rattle.rules.specs.Shape.{remainders, keys}
 use Rattle.rules.specs.Entry.{Entry}
 use Rattle.rules.specs.Table.{at}
 use Rattle.rules.specs.Record.{home_place_of, task_at}
-use Rattle.together.specs.Invariant.{Looked, LookedLeft, Inv, InPhase, at_rest, at_home, looks_left, looks_right}
+use Rattle.together.specs.Invariant.{Looked, LookedLeft, Inv, InPhase, rests, at_home, looks_left, looks_right}
 use Rattle.together.specs.Invariant.{owns_left, owns_both, has_read, moving, marking, frees_left, frees_right}
 use Rattle.together.specs.Stable.{word_of}
 use Rattle.together.specs.Facts.{in_order, free_void}
@@ -79,8 +79,8 @@ module _ {sh : Shape} {ws : List Word} {ts : List Task} {laid : List Word} {show
     walk a b = by_stage (inv.stage i lt)
       where
         by_stage : InPhase sh ws laid shown (task_at ts i) → Walked sh ws ts laid shown i
-        by_stage (at_rest (inl e)) = absurd (omega arith)
-        by_stage (at_rest (inr e)) = absurd (omega arith)
+        by_stage (rests (inl e)) = absurd (omega arith)
+        by_stage (rests (inr e)) = absurd (omega arith)
         by_stage (at_home p k) = walk_1 p k
         by_stage (looks_left p k x) = walk_2 p k x
         by_stage (looks_right p q k x) = third (in_order (task_at ts i).phase 3)

@@ -22,7 +22,7 @@ use Rattle.theory.specs.Pairs.{table_lay, unlocked_same}
 use Rattle.theory.specs.Putting.{table_guarded}
 use Rattle.theory.specs.Building.{State}
 use Rattle.together.specs.Frames.{Within, occupied_same}
-use Rattle.together.specs.Invariant.{Occupied, Looked, Moving, InPhase, at_rest, at_home, looks_left, looks_right}
+use Rattle.together.specs.Invariant.{Occupied, Looked, Moving, InPhase, rests, at_home, looks_left, looks_right}
 use Rattle.together.specs.Invariant.{owns_left, owns_both, has_read, moving, marking, frees_left, frees_right}
 use Rattle.together.specs.Invariant.{Unfinished, Inv}
 use Rattle.together.specs.Update.{same_or_not}
@@ -111,8 +111,8 @@ pub record Moves (sh : Shape) (ws laid : List Word) (shown : List Entry) (t : Ta
 pub unfinished_moves :
     {sh : Shape} {ws laid : List Word} {shown : List Entry} {t : Task} →
     9 ≤ t.phase → t.phase ≤ 10 → InPhase sh ws laid shown t → Moves sh ws laid shown t
-unfinished_moves a b (at_rest (inl e)) = absurd (omega arith)
-unfinished_moves a b (at_rest (inr e)) = absurd (omega arith)
+unfinished_moves a b (rests (inl e)) = absurd (omega arith)
+unfinished_moves a b (rests (inr e)) = absurd (omega arith)
 unfinished_moves a b (at_home e k) = absurd (omega arith)
 unfinished_moves a b (looks_left e k x) = absurd (omega arith)
 unfinished_moves a b (looks_right e f k x) = absurd (omega arith)

@@ -38,7 +38,7 @@ use Rattle.demands.specs.Terms.{PlainTable, InKeys, entries_of}
 use Rattle.demands.specs.Tables.{state_of, bytes_small}
 use Rattle.demands.specs.Proof2.{same_split}
 use Rattle.demands.specs.Proof3.{listed_split}
-use Rattle.together.specs.Invariant.{Owns, by_left, by_right, Reserves, Unfinished, Inv, InPhase, at_rest}
+use Rattle.together.specs.Invariant.{Owns, by_left, by_right, Reserves, Unfinished, Inv, InPhase, rests}
 use Rattle.together.specs.Invariant.{at_home, looks_left, looks_right, owns_left, owns_both, has_read, moving}
 use Rattle.together.specs.Invariant.{marking, frees_left, frees_right}
 use Rattle.together.specs.Update.{inv_update, task_same, task_other, same_or_not}
@@ -141,7 +141,7 @@ inv_begin {sh} {ws} ts s small rest =
       plain = s;
       places = refl;
       small = small;
-      stage = λ i lt. at_rest (rest_at ts i lt rest);
+      stage = λ i lt. rests (rest_at ts i lt rest);
       apart = λ i j l k n.
           record {
             owners = λ p x y. rest_owns (task_at ts i) p (rest_at ts i l rest) x;
@@ -530,8 +530,8 @@ stepped_world w i t ws =
 
 stage_last :
     {sh : Shape} {ws laid : List Word} {shown : List Entry} (t : Task) → InPhase sh ws laid shown t → t.phase ≤ 13
-stage_last t (at_rest (inl e)) = omega arith
-stage_last t (at_rest (inr e)) = omega arith
+stage_last t (rests (inl e)) = omega arith
+stage_last t (rests (inr e)) = omega arith
 stage_last t (at_home p k) = omega arith
 stage_last t (looks_left p k x) = omega arith
 stage_last t (looks_right p q k x) = omega arith
@@ -852,7 +852,7 @@ pub fair_course :
     Fair sh start (course sh w more)
 unfolding course
 fair_course [] f = f
-fair_course (a ∷ more) f = fair_course more (fair_act a f)
+fair_course {sh = sh} {w = w} (a ∷ more) f = fair_course {w = act sh w a} more (fair_act a f)
 
 -- ---- what a step may answer on the way
 pub data StepAnswer (ts : List Task) (i : ℕ) : Answer → Type 0 where

@@ -32,7 +32,7 @@ use Rattle.together.specs.Frames.{Within, at_set, at_other, finish_before, finis
 use Rattle.together.specs.Frames.{occupied_by}
 use Rattle.together.specs.Invariant.{Occupied, Looked, Moving, Owns, by_left, by_right, Reserves, Unfinished, Inv}
 use Rattle.together.specs.Invariant.{Ends, ends_found, ends_full, ends_inserted, RightEnd, right_found}
-use Rattle.together.specs.Invariant.{right_full, right_waiting, right_filled, InPhase, at_rest, moving, marking}
+use Rattle.together.specs.Invariant.{right_full, right_waiting, right_filled, InPhase, rests, moving, marking}
 use Rattle.together.specs.Invariant.{frees_left, frees_right}
 use Rattle.together.specs.Stable.{word_of, from_ge, up_to_le, fills_as}
 use Rattle.together.specs.Update.{same_or_not}
@@ -655,7 +655,7 @@ module _ {sh : Shape} {ws : List Word} {ts : List Task} {laid : List Word} {show
               false
               inside
               (λ u a s o. a.owners t.right (by_right (omega arith) (omega arith) refl) o)
-              (at_rest (inr refl))
+              (rests (inr refl))
               (λ u a s. apart_less back (λ (r : Reserves (to_phase 13 t)). absurd (omega (arith, r.to_10))) a)
               (λ q n o. absurd (gone q n o))
               (λ e. absurd (false≢true e))

@@ -16,7 +16,7 @@ use Rattle.theory.specs.Gaps as gaps
 use Rattle.theory.specs.Gaps.{Side, HomePlace}
 use Rattle.theory.specs.Cut.{end, from, up_to}
 use Rattle.theory.specs.Moving.{smaller_inside, last_follows}
-use Rattle.together.specs.Invariant.{Looked, Fills, MayFill, Moving, InPhase, at_rest, at_home, looks_left}
+use Rattle.together.specs.Invariant.{Looked, Fills, MayFill, Moving, InPhase, rests, at_home, looks_left}
 use Rattle.together.specs.Invariant.{looks_right, owns_left, owns_both, has_read, moving, marking, frees_left}
 use Rattle.together.specs.Invariant.{frees_right}
 use Rattle.together.specs.Facts.{FitsHand, FitsBusy, fits_busy_lem}
@@ -219,8 +219,8 @@ module _ {sh : Shape} {ws laid : List Word} {shown : List Entry} (size : length 
 
   pub stage_fits : (t : Task) → InPhase sh ws laid shown t → fits sh t ≡ true
   unfolding fits at_rest
-  stage_fits t (at_rest (inl e)) = or_left _ _ (or_left _ _ (eq-eqb t.phase 0 e))
-  stage_fits t (at_rest (inr e)) = or_left _ _ (or_right (eqb t.phase 0) _ (eq-eqb t.phase 13 e))
+  stage_fits t (rests (inl e)) = or_left _ _ (or_left _ _ (eq-eqb t.phase 0 e))
+  stage_fits t (rests (inr e)) = or_left _ _ (or_right (eqb t.phase 0) _ (eq-eqb t.phase 13 e))
   stage_fits t (at_home p k) =
       fits_busy_lem
       sh

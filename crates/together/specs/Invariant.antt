@@ -106,7 +106,7 @@ pub data RightEnd (sh : Shape) (ws : List Word) (shown : List Entry) (t : Task) 
 
 -- what a task relies on in each phase; its key is in range in all phases but at rest
 pub data InPhase (sh : Shape) (ws laid : List Word) (shown : List Entry) (t : Task) : Type 0 where
-  at_rest : (t.phase ≡ 0) ⊎ (t.phase ≡ 13) → InPhase sh ws laid shown t
+  rests : (t.phase ≡ 0) ⊎ (t.phase ≡ 13) → InPhase sh ws laid shown t
   at_home : t.phase ≡ 1 → t.key < keys sh → InPhase sh ws laid shown t
   looks_left : t.phase ≡ 2 → t.key < keys sh → LookedLeft sh ws t → InPhase sh ws laid shown t
   -- phases 3 and 4 own nothing yet

@@ -23,7 +23,7 @@ use Rattle.theory.specs.Locks.{occupied_unlock, at_unlock}
 use Rattle.together.specs.Frames.{Within, at_set, at_other}
 use Rattle.together.specs.Invariant.{Looked, FilledEnd, Owns, by_left, by_right, Reserves, Apart, Unfinished, Inv}
 use Rattle.together.specs.Invariant.{Ends, ends_found, ends_full, ends_inserted, RightEnd, right_found}
-use Rattle.together.specs.Invariant.{right_full, right_waiting, right_filled, InPhase, at_rest, at_home}
+use Rattle.together.specs.Invariant.{right_full, right_waiting, right_filled, InPhase, rests, at_home}
 use Rattle.together.specs.Invariant.{looks_left, looks_right, owns_left, owns_both, has_read, moving, marking}
 use Rattle.together.specs.Invariant.{frees_left, frees_right}
 use Rattle.together.specs.Stable.{Frame, LetsAlone, stage_stable}
@@ -63,8 +63,8 @@ Held ws t =
     × (7 ≤ t.phase → t.phase ≤ 12 → (at ws t.right).lock ≡ true)
 
 stage_held : {sh : Shape} {ws laid : List Word} {shown : List Entry} {t : Task} → InPhase sh ws laid shown t → Held ws t
-stage_held (at_rest (inl e)) = (λ a b. absurd (omega arith), λ a b. absurd (omega arith))
-stage_held (at_rest (inr e)) = (λ a b. absurd (omega arith), λ a b. absurd (omega arith))
+stage_held (rests (inl e)) = (λ a b. absurd (omega arith), λ a b. absurd (omega arith))
+stage_held (rests (inr e)) = (λ a b. absurd (omega arith), λ a b. absurd (omega arith))
 stage_held (at_home e k) = (λ a b. absurd (omega arith), λ a b. absurd (omega arith))
 stage_held (looks_left e k x) = (λ a b. absurd (omega arith), λ a b. absurd (omega arith))
 stage_held (looks_right e f k x) = (λ a b. absurd (omega arith), λ a b. absurd (omega arith))

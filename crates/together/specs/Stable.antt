@@ -28,7 +28,7 @@ use Rattle.together.specs.Frames.{Within, finish_agree}
 use Rattle.together.specs.Invariant.{Occupied, LookedLeft, Looked, Fills, FilledEnd, MayFill, Moving, Owns}
 use Rattle.together.specs.Invariant.{by_left, by_right, Reserves, Ends, ends_found, ends_full, ends_inserted}
 use Rattle.together.specs.Invariant.{RightEnd, right_found, right_full, right_waiting, right_filled, InPhase}
-use Rattle.together.specs.Invariant.{at_rest, at_home, looks_left, looks_right, owns_left, owns_both, has_read}
+use Rattle.together.specs.Invariant.{rests, at_home, looks_left, looks_right, owns_left, owns_both, has_read}
 use Rattle.together.specs.Invariant.{moving, marking, frees_left, frees_right}
 
 -- what a step changes: words, locks aside, and words laid only at the places touched; no place is emptied and no
@@ -287,7 +287,7 @@ module _ {sh : Shape} {ws laid : List Word} {shown : List Entry} {ws' laid' : Li
     pub stage_stable :
         (u.phase ≡ 8 → holds (split sh u.key) shown' ≡ holds (split sh u.key) shown) →
         InPhase sh ws laid shown u → InPhase sh ws' laid' shown' u
-    stage_stable fresh (at_rest p) = at_rest p
+    stage_stable fresh (rests p) = rests p
     stage_stable fresh (at_home p k) = at_home p k
     stage_stable fresh (looks_left p k x) = looks_left p k (left_stable x)
     stage_stable fresh (looks_right p q k x) = looks_right p q k (looked_stable x)

@@ -33,7 +33,7 @@ use Rattle.theory.specs.Building.{after_put}
 use Rattle.together.specs.Stable.{word_of}
 use Rattle.together.specs.Frames.{Within}
 use Rattle.together.specs.Invariant.{Occupied, LookedLeft, Looked, Owns, by_left, by_right, Reserves, Apart}
-use Rattle.together.specs.Invariant.{Unfinished, Inv, Moving, InPhase, at_rest, at_home, looks_left, looks_right}
+use Rattle.together.specs.Invariant.{Unfinished, Inv, Moving, InPhase, rests, at_home, looks_left, looks_right}
 use Rattle.together.specs.Invariant.{owns_left, owns_both, has_read, moving, marking, frees_left, frees_right}
 use Rattle.together.specs.Update.{Steps, same_or_not}
 use Rattle.together.specs.Facts.{in_order, between_taken, words_size, guards_free_lem, guards_void_lem}
@@ -112,8 +112,8 @@ moving_end {ws = ws} {t = t} m = go m.side m.waiting
 pub free_end :
     {sh : Shape} {ws laid : List Word} {shown : List Entry} {t : Task} →
     7 ≤ t.phase → t.phase ≤ 10 → InPhase sh ws laid shown t → FreeEnd ws t × Looked sh ws t
-free_end a b (at_rest (inl e)) = absurd (omega arith)
-free_end a b (at_rest (inr e)) = absurd (omega arith)
+free_end a b (rests (inl e)) = absurd (omega arith)
+free_end a b (rests (inr e)) = absurd (omega arith)
 free_end a b (at_home e k) = absurd (omega arith)
 free_end a b (looks_left e k x) = absurd (omega arith)
 free_end a b (looks_right e f k x) = absurd (omega arith)
