@@ -3,7 +3,7 @@
 -- of the words beforehand.
 -- Assumes nothing.
 use Prim.Native.Nat.{ℕ, zero, suc, ◌+◌, ◌≤◌, ◌<◌}
-use Rattle.std.specs.Prelude.{◌≡◌, Bool, true, false, not, ◌&&◌, length, take, ltb}
+use Rattle.std.specs.Prelude.{◌≡◌, Bool, true, false, not, cond, ◌&&◌, length, take, ltb}
 use Rattle.std.proofs.Math.Path.{refl, sym, ap}
 use Rattle.std.proofs.Common.{◌∙◌, arith, drop-cons, length-take-le, ltb-true, ltb-false}
 use mathlib.Core.List.{List, [], ◌∷◌, ◌++◌}
@@ -14,7 +14,7 @@ use Rattle.rules.specs.declared.Shape.{Shape}
 use Rattle.rules.specs.Lists.{count, all}
 use Rattle.rules.specs.Word.{Word, zero_word, is_void}
 use Rattle.rules.specs.Shape.{remainders, places, right_guard}
-use Rattle.rules.specs.Table.{at, occupied_places, right_gap, between, sound_run, sound_at, sound_from, guards_void, sound}
+use Rattle.rules.specs.Table.{at, occupied_places, right_gap, between, cluster, sound_run, sound_at, sound_from, guards_void, sound}
 use Rattle.theory.specs.Dealt.{is_virgin, is_occupied, is_low, and_left, and_right, and_both}
 use Rattle.theory.specs.Gaps.{Gap, Guarded, right_gap_is, gap_first, gap_above}
 use Rattle.theory.specs.Gaps as gaps
@@ -40,7 +40,8 @@ guard_step :
     0 < length ws → (at ws 0).occupied ≡ false → sound_from sh ws 0 ws ≡ (is_void (at ws 0) && sound_after sh ws 0)
 unfolding sound_from sound_at
 guard_step sh [] some free = absurd (omega arith)
-guard_step sh (w ∷ ws) some free = rw free
+guard_step sh (w ∷ ws) some free =
+    ap (λ (b : Bool). cond b (sound_run sh (cluster (w ∷ ws) 0)) (is_void w) && sound_from sh (w ∷ ws) 1 ws) free
 
 pub sound_guards :
     (sh : Shape) (ws : List Word) →
