@@ -11,7 +11,7 @@ unfolding home_place_of
 mark-requires c =
     let bounds = hand_bounds c.requires (omega arith) (omega arith) in
     rw c.home_place.ensures
-    (goal_inside c.requires (omega arith) (omega arith), (home_inside c.requires, λ one. omega (arith, bounds.mark_one one)))
+    (record { fact_1 = goal_inside c.requires (omega arith) (omega arith); fact_2 = home_inside c.requires; fact_3 = λ one. omega (arith, bounds.mark_one one) })
 
 pub returns : goal.returns
 unfolding mark home_place_of
