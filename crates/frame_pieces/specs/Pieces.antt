@@ -147,7 +147,7 @@ all_right :
 unfolding feed_all flatten
 all_right {input} [] r = rw (append-nil input) r
 all_right {input} (piece ∷ pieces) r =
-    rw (← append_assoc input piece (flatten pieces)) (all_right pieces (piece_right piece r))
+    rw (← append_assoc input piece (flatten pieces)) (all_right {input = input ++ piece} pieces (piece_right piece r))
 
 whole_right : {input : List ℕ} {c : Caller} → Right input c → finish_all c ≡ written (output input)
 whole_right {input} (right {run} {b} {text} l s same) =
