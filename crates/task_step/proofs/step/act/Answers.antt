@@ -2,9 +2,9 @@
 -- Assumes nothing.
 use Prim.Native.Nat.{◌≤◌}
 use native.Mathlib.Omega.{arith}
-use mathlib.Core.Logic.{inl}
+use Rattle.std.proofs.Common.{◌≢◌, ⊎_elim}
 use mathlib.Core.Path.{refl, ◌∙◌}
-use Rattle.task_fits.specs.Phases.{above, phase_1, phase_2, phase_3, phase_4, phase_5, phase_6, phase_7, phase_8}
+use Rattle.task_fits.specs.Phases.{phase_1, phase_2, phase_3, phase_4, phase_5, phase_6, phase_7, phase_8}
 use Rattle.task_fits.specs.Phases.{phase_9, phase_10, phase_11, phase_12}
 use Rattle.task_step.specs.Stepping.{acts_resting, acts_ready, acts_busy, acts_none}
 use Rattle.task_step.proofs.step.act.Goals as goal
@@ -110,19 +110,7 @@ returns-in-12 c =
 
 pub returns-in-14-to-255 : goal.returns-in-14-to-255
 returns-in-14-to-255 c =
-    let rest = c.in-14-to-255.rest in
-    let from_7 = rest.0.0.0.0.0.0 in
-    let awake = from_7.0.0.0.0.0.0.1 in
-    let low : 7 ≤ c.args.t.phase =
-    above 6 from_7.1
-    (above 5 from_7.0.1
-    (above 4 from_7.0.0.1
-    (above 3 from_7.0.0.0.1
-    (above 2 from_7.0.0.0.0.1
-    (above 1 from_7.0.0.0.0.0.1 (above 0 (λ e. awake (inl e)) (omega arith))))))) in
-    absurd
-    (acts_none c.requires awake
-    (above 12 rest.1
-    (above 11 rest.0.1
-    (above 10 rest.0.0.1
-    (above 9 rest.0.0.0.1 (above 8 rest.0.0.0.0.1 (above 7 rest.0.0.0.0.0.1 low)))))))
+    let t = c.args.t in
+    let awake : t.phase ≢ 0 = grind arith in
+    let working : t.phase ≢ 13 = grind arith in
+    absurd (acts_none c.requires (⊎_elim awake working) (grind arith))
