@@ -20,7 +20,7 @@ use Rattle.frame_rounds.specs.declared.round.Desk.{Desk}
 use Rattle.frame_rounds.specs.declared.turn.Sitting.{Sitting}
 use Rattle.table_words.specs.All.{all_on, all_stops, all_ends}
 use Rattle.frame_pieces.specs.Limits.{keys_count}
-use Rattle.frame_rounds.specs.Sitting.{Sat, sat, turn_one, turn_one}
+use Rattle.frame_rounds.specs.Sitting.{Sat, sat, turn_one, turn_one_lem}
 
 -- the floor of the first n of some tasks
 abbrev pub floor_with : ℕ → List ℕ → List ℕ → List Task → List ℕ → ℕ → Floor

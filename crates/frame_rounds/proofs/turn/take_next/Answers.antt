@@ -5,11 +5,7 @@ use Rattle.frame_rounds.specs.Sitting.{next_there, take_more, take_none}
 use Rattle.frame_rounds.proofs.turn.take_next.Goals as goal
 
 pub key_at-key-requires : goal.key_at-key-requires
-key_at-key-requires c = record { fact_1 = search (rules, next_there); fact_2 = search (rules, next_there) }
-
--- FIXME no goal overflow-add-t12
-add-t12 : tie.Need-overflow-add-t12
-add-t12 c = search rules
+key_at-key-requires c = record { fact_1 = search rules; fact_2 = search (rules, next_there) }
 
 pub returns-then-i-line : goal.returns-then-i-line
 returns-then-i-line c = search (rules, take_more)
