@@ -4,10 +4,10 @@
 
 ghost use Rattle.std.specs.Prelude.{◌≡◌};
 ghost use Rattle.rules.specs.Shape.{shape_of};
-ghost use Rattle.rules.specs.Find.{find as spec-find};
-ghost use Rattle.rules.specs.Put.{put as spec-put};
-ghost use Rattle.rules.specs.Fill.{fill as spec-fill};
-ghost use Rattle.table_packed.specs.Packed.{packed as packed-answer, gives, packed_leaves};
+ghost use Rattle.rules.specs.Find.{find as spec_find};
+ghost use Rattle.rules.specs.Put.{put as spec_put};
+ghost use Rattle.rules.specs.Fill.{fill as spec_fill};
+ghost use Rattle.table_packed.specs.Packed.{packed as packed_answer, gives, packed_leaves};
 
 use table_find::fill::fill;
 use table_find::find::find;
@@ -16,21 +16,21 @@ use table_put::put::put;
 
 #[unsafe(no_mangle)]
 pub extern "C" fn wd_find(m: u32, r: u32, table: &[u8], key: u32) -> u64
-    ensures { result ≡ packed-answer (spec-find (shape_of m r) table.now key) }
+    ensures { result ≡ packed_answer (spec_find (shape_of m r) table.now key) }
 {
     pack_find(find(m, r, table, key))
 }
 
 #[unsafe(no_mangle)]
 pub extern "C" fn wd_put(m: u32, r: u32, table: &mut [u8], key: u32) -> u64
-    ensures { gives result table.new ≡ packed_leaves (spec-put (shape_of m r) table.old key) }
+    ensures { gives result table.new ≡ packed_leaves (spec_put (shape_of m r) table.old key) }
 {
     pack_put(put(m, r, table, key))
 }
 
 #[unsafe(no_mangle)]
 pub extern "C" fn wd_fill(m: u32, r: u32, table: &[u8]) -> u64
-    ensures { result ≡ packed-answer (spec-fill (shape_of m r) table.now) }
+    ensures { result ≡ packed_answer (spec_fill (shape_of m r) table.now) }
 {
     pack_fill(fill(m, r, table))
 }

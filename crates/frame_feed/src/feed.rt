@@ -1,7 +1,7 @@
 // Feeding (01, The frame program): a run begins, and takes the rest of one line from a piece of its input.
 ghost use Rattle.std.specs.Prelude.{◌≡◌, min, drop};
 ghost use Rattle.frame_rules.specs.declared.Stage.TheVariants.{AtFirst};
-ghost use Rattle.frame_rules.specs.Feed.{lent_buffers, run_of, with_held, fed_says, feed_good, feed as spec-feed};
+ghost use Rattle.frame_rules.specs.Feed.{lent_buffers, run_of, with_held, fed_says, feed_good, feed as spec_feed};
 ghost use Rattle.frame_pieces.specs.Feeding.{InOrder};
 
 use frame_buffers::check::check;
@@ -70,7 +70,7 @@ pub fn feed(
     out: &mut [u8],
 ) -> FeedAnswer
     ensures { fed_says result (lent_buffers line.new table.new out.new)
-        ≡ spec-feed run piece.now at
+        ≡ spec_feed run piece.now at
         (lent_buffers line.old table.old out.old) }
 {
     let fine = check(run, line.len(), table.len(), out.len());

@@ -1,6 +1,6 @@
 // The end of the input (01, The frame program): a last line that lacks its line feed, and then the table.
 ghost use Rattle.std.specs.Prelude.{◌≡◌};
-ghost use Rattle.frame_rules.specs.Feed.{lent_buffers, last_line, finish_says, finish_good, finish as spec-finish};
+ghost use Rattle.frame_rules.specs.Feed.{lent_buffers, last_line, finish_says, finish_good, finish as spec_finish};
 ghost use Rattle.frame_pieces.specs.Feeding.{InOrder};
 ghost use Rattle.frame_run.specs.Closing.{closed, last_closing};
 
@@ -36,7 +36,7 @@ fn finish_good(run: Run, line: &[u8], table: &mut [u8], out: &mut [u8]) -> Finis
 
 pub fn finish(run: Run, line: &[u8], table: &mut [u8], out: &mut [u8]) -> FinishAnswer
     ensures { finish_says result (lent_buffers line.now table.new out.new)
-        ≡ spec-finish run (lent_buffers line.now table.old out.old) }
+        ≡ spec_finish run (lent_buffers line.now table.old out.old) }
 {
     let fine = check(run, line.len(), table.len(), out.len());
     match fine {

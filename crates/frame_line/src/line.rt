@@ -2,7 +2,7 @@
 // `line` takes the numbers of a first line one by one, as every call does; `line_by` takes them as they were read.
 ghost use Rattle.std.specs.Prelude.{◌≡◌, true, ℕ, ◌≤◌, ltb};
 ghost use Rattle.rules.specs.Lists.{all};
-ghost use Rattle.rules.specs.Shape.{keys as keys_of};
+ghost use Rattle.rules.specs.Shape.{keys as shape_keys};
 ghost use Rattle.frame_rules.specs.Digits.{is_digit};
 ghost use Rattle.frame_rules.specs.Lines.{first, keys_of, good_line};
 ghost use Rattle.frame_rules.specs.Call.{line_says, left_alone};
@@ -23,7 +23,7 @@ use table_words::shape::good_table;
 fn good_keys(sh: Shape, text: &[u8]) -> bool
     requires fact_1 { InRange sh }
     requires fact_2 { all is_digit text.now ≡ true }
-    ensures { result ≡ all (λ (key : ℕ). ltb key (keys_of sh)) (keys_of text.now) }
+    ensures { result ≡ all (λ (key : ℕ). ltb key (shape_keys sh)) (keys_of text.now) }
 {
     let n = text.len() / 8;
     let mut i = 0;

@@ -5,7 +5,7 @@ ghost use Rattle.rules.specs.Lists.{all};
 ghost use Rattle.rules.specs.Record.{at_rest};
 ghost use Rattle.frame_rules.specs.Digits.{is_digit};
 ghost use Rattle.frame_rules.specs.Lines.{keys_of};
-ghost use Rattle.frame_rules.specs.Rounds.{round as spec-round, rounds as spec-rounds};
+ghost use Rattle.frame_rules.specs.Rounds.{round as spec_round, rounds as spec_rounds};
 ghost use Rattle.frame_rounds.specs.Desk.{floor_with, floor_of, answered_at};
 
 use crate::turn::{Sitting, turn};
@@ -33,7 +33,7 @@ fn round(
     requires fact_1 { f.tasks ≤ 16 }
     requires fact_2 { all is_digit line.now ≡ true }
     ensures { floor_of f.tasks table.new answers.new result
-        ≡ spec-round f (keys_of line.now)
+        ≡ spec_round f (keys_of line.now)
         (floor_with f.tasks table.old answers.old seats numbers count) }
 {
     let n = f.tasks as usize;
@@ -112,7 +112,7 @@ pub fn rounds(
     requires fact_1 { f.tasks ≤ 16 }
     requires fact_2 { all is_digit line.now ≡ true }
     ensures { floor_of f.tasks table.new answers.new result
-        ≡ spec-rounds f (keys_of line.now) limit
+        ≡ spec_rounds f (keys_of line.now) limit
         (floor_of f.tasks table.old answers.old desk) }
 {
     let mut d = desk;

@@ -4,8 +4,8 @@
 
 ghost use Rattle.std.specs.Prelude.{◌≡◌};
 ghost use Rattle.rules.specs.Shape.{shape_of};
-ghost use Rattle.rules.specs.Build.{build as spec-build};
-ghost use Rattle.rules.specs.Listing.{listing as spec-list};
+ghost use Rattle.rules.specs.Build.{build as spec_build};
+ghost use Rattle.rules.specs.Listing.{listing as spec_list};
 ghost use Rattle.table_packed.specs.Packed.{gives, packed_leaves};
 
 use table_list::list::list;
@@ -15,7 +15,7 @@ use table_put::build::build;
 #[unsafe(no_mangle)]
 pub extern "C" fn wd_build(m: u32, r: u32, table: &mut [u8], keys: &[u32]) -> u64
     ensures { gives result table.new
-        ≡ packed_leaves (spec-build (shape_of m r) table.old keys.now) }
+        ≡ packed_leaves (spec_build (shape_of m r) table.old keys.now) }
 {
     pack_done(build(m, r, table, keys))
 }
@@ -23,7 +23,7 @@ pub extern "C" fn wd_build(m: u32, r: u32, table: &mut [u8], keys: &[u32]) -> u6
 #[unsafe(no_mangle)]
 pub extern "C" fn wd_list(m: u32, r: u32, table: &[u8], slots: &mut [u32]) -> u64
     ensures { gives result slots.new
-        ≡ packed_leaves (spec-list (shape_of m r) table.now slots.old) }
+        ≡ packed_leaves (spec_list (shape_of m r) table.now slots.old) }
 {
     pack_list(list(m, r, table, slots))
 }

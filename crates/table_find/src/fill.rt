@@ -3,7 +3,7 @@ ghost use Rattle.std.specs.Prelude.{◌≡◌, ◌*◌, ◌≤◌, length};
 ghost use Rattle.rules.specs.Lists.{count};
 ghost use Rattle.rules.specs.Bytes.{words_of};
 ghost use Rattle.rules.specs.Shape.{shape_of, places};
-ghost use Rattle.rules.specs.Fill.{figure as spec-figure, fill as spec-fill};
+ghost use Rattle.rules.specs.Fill.{figure as spec-figure, fill as spec_fill};
 ghost use Rattle.rules.specs.Answer.{fill_says};
 ghost use Rattle.table_words.specs.Range.{InRange};
 ghost use Rattle.theory.specs.Dealt.{is_occupied};
@@ -42,7 +42,7 @@ fn figure(sh: Shape, table: &[u8]) -> u32
 }
 
 pub fn fill(m: u32, r: u32, table: &[u8]) -> FillAnswer
-    ensures { fill_says result ≡ spec-fill (shape_of m r) table.now }
+    ensures { fill_says result ≡ spec_fill (shape_of m r) table.now }
 {
     if good_table(m, r, table.len()) {
         FillAnswer::Figure(figure(shape_of(m, r), table))

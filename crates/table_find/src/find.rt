@@ -7,7 +7,7 @@ ghost use Rattle.rules.specs.Shape.{shape_of, keys, places};
 ghost use Rattle.rules.specs.Entry.{split};
 ghost use Rattle.rules.specs.Table.{at, guards_void};
 ghost use Rattle.rules.specs.Answer.{says, find_says};
-ghost use Rattle.rules.specs.Find.{find_in, find as spec-find};
+ghost use Rattle.rules.specs.Find.{find_in, find as spec_find};
 ghost use Rattle.table_words.specs.Range.{InRange};
 ghost use Rattle.table_words.specs.Split.{InShape};
 ghost use Rattle.table_read.specs.Read.{entry};
@@ -106,7 +106,7 @@ fn find_key(sh: Shape, table: &[u8], key: u32) -> FindAnswer
 }
 
 pub fn find(m: u32, r: u32, table: &[u8], key: u32) -> FindAnswer
-    ensures { find_says result ≡ spec-find (shape_of m r) table.now key }
+    ensures { find_says result ≡ spec_find (shape_of m r) table.now key }
 {
     if good_table(m, r, table.len()) {
         let sh = shape_of(m, r);

@@ -7,7 +7,7 @@ ghost use Rattle.rules.specs.Shape.{shape_of, places, keys as keys_of};
 ghost use Rattle.rules.specs.Entry.{split};
 ghost use Rattle.rules.specs.Answer.{leaves, put_says, done_says};
 ghost use Rattle.rules.specs.Put.{put_in};
-ghost use Rattle.rules.specs.Build.{build_in, build as spec-build};
+ghost use Rattle.rules.specs.Build.{build_in, build as spec_build};
 ghost use Rattle.table_words.specs.Range.{InRange};
 ghost use Rattle.table_words.specs.Split.{InShape};
 ghost use Rattle.table_read.specs.Read.{entry};
@@ -128,7 +128,7 @@ fn build_in(sh: Shape, table: &mut [u8], keys: &[u32]) -> Done
 
 pub fn build(m: u32, r: u32, table: &mut [u8], keys: &[u32]) -> Done
     ensures { leaves (done_says result) table.new
-        ≡ spec-build (shape_of m r) table.old keys.now }
+        ≡ spec_build (shape_of m r) table.old keys.now }
 {
     if good_table(m, r, table.len()) {
         let sh = shape_of(m, r);

@@ -5,7 +5,7 @@ ghost use Rattle.rules.specs.Shape.{shape_of, keys, places};
 ghost use Rattle.rules.specs.Entry.{split};
 ghost use Rattle.rules.specs.Table.{at, guards_void};
 ghost use Rattle.rules.specs.Answer.{leaves, put_says};
-ghost use Rattle.rules.specs.Put.{put_in, put as spec-put};
+ghost use Rattle.rules.specs.Put.{put_in, put as spec_put};
 ghost use Rattle.table_words.specs.Range.{InRange};
 ghost use Rattle.table_words.specs.Split.{InShape};
 ghost use Rattle.table_read.specs.Read.{entry};
@@ -97,7 +97,7 @@ fn put_key(sh: Shape, table: &mut [u8], key: u32) -> PutAnswer
 }
 
 pub fn put(m: u32, r: u32, table: &mut [u8], key: u32) -> PutAnswer
-    ensures { leaves (put_says result) table.new ≡ spec-put (shape_of m r) table.old key }
+    ensures { leaves (put_says result) table.new ≡ spec_put (shape_of m r) table.old key }
 {
     if good_table(m, r, table.len()) {
         let sh = shape_of(m, r);
