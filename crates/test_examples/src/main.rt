@@ -3,130 +3,137 @@
 #![tactic(auto)]
 
 use rules::{Done, FillAnswer, FindAnswer, ListAnswer, PutAnswer};
+use std::io;
 use table_find::fill::fill;
 use table_find::find::find;
 use table_list::list::list;
 use table_put::build::build;
 use table_put::put::put;
 
-fn show_build(m: u32, r: u32, table: &mut [u8], keys: &[u32]) {
-    io::write_all(1, b"build");
-    test_print::keys(keys);
-    io::write_all(1, b":");
+fn show_build(rt: &impl Print, m: u32, r: u32, table: &mut [u8], keys: &[u32]) -> io::Result<()> {
+    rt.write_all(b"build")?;
+    test_print::keys(rt, keys)?;
+    rt.write_all(b":")?;
     let answer = build(m, r, table, keys);
     match answer {
-        Done::Accepted => test_print::words(table),
-        Done::Refused(n) => test_print::refused(n),
+        Done::Accepted => test_print::words(rt, table)?,
+        Done::Refused(n) => test_print::refused(rt, n)?,
     }
-    test_print::end_line();
+    test_print::end_line(rt)
 }
 
-fn show_list(m: u32, r: u32, table: &[u8]) {
+fn show_list(rt: &impl Print, m: u32, r: u32, table: &[u8]) -> io::Result<()> {
     let mut slots = [0u32; 8];
-    io::write_all(1, b"list of");
-    test_print::words(table);
-    io::write_all(1, b":");
+    rt.write_all(b"list of")?;
+    test_print::words(rt, table)?;
+    rt.write_all(b":")?;
     let answer = list(m, r, table, &mut slots);
     match answer {
-        ListAnswer::Listed(n) => show_listed(&slots, n),
-        ListAnswer::Refused(n) => test_print::refused(n),
+        ListAnswer::Listed(n) => show_listed(rt, &slots, n)?,
+        ListAnswer::Refused(n) => test_print::refused(rt, n)?,
     }
-    test_print::end_line();
+    test_print::end_line(rt)
 }
 
 // The keys that were listed stand at the front.
-fn show_listed(slots: &[u32], n: usize) {
+fn show_listed(rt: &impl Print, slots: &[u32], n: usize) -> io::Result<()> {
     if n <= slots.len() {
-        test_print::keys(&slots[0..n]);
+        test_print::keys(rt, &slots[0..n])?;
     }
+    Ok(())
 }
 
-fn show_find(m: u32, r: u32, table: &[u8], key: u32) {
-    io::write_all(1, b"find ");
-    test_print::key(key);
-    io::write_all(1, b":");
+fn show_find(rt: &impl Print, m: u32, r: u32, table: &[u8], key: u32) -> io::Result<()> {
+    rt.write_all(b"find ")?;
+    test_print::key(rt, key)?;
+    rt.write_all(b":")?;
     let answer = find(m, r, table, key);
     match answer {
         FindAnswer::Absent => {
-            io::write_all(1, b" absent");
+            rt.write_all(b" absent")?;
         }
         FindAnswer::Present => {
-            io::write_all(1, b" present");
+            rt.write_all(b" present")?;
         }
-        FindAnswer::Refused(n) => test_print::refused(n),
+        FindAnswer::Refused(n) => test_print::refused(rt, n)?,
     }
-    test_print::end_line();
+    test_print::end_line(rt)
 }
 
-fn show_put(m: u32, r: u32, table: &mut [u8], key: u32) {
-    io::write_all(1, b"put ");
-    test_print::key(key);
-    io::write_all(1, b":");
+fn show_put(rt: &impl Print, m: u32, r: u32, table: &mut [u8], key: u32) -> io::Result<()> {
+    rt.write_all(b"put ")?;
+    test_print::key(rt, key)?;
+    rt.write_all(b":")?;
     let answer = put(m, r, table, key);
     match answer {
         PutAnswer::Found => {
-            io::write_all(1, b" found");
+            rt.write_all(b" found")?;
         }
         PutAnswer::Inserted => {
-            io::write_all(1, b" inserted");
+            rt.write_all(b" inserted")?;
         }
-        PutAnswer::Refused(n) => test_print::refused(n),
+        PutAnswer::Refused(n) => test_print::refused(rt, n)?,
     }
-    test_print::end_line();
+    test_print::end_line(rt)
 }
 
-fn show_fill(m: u32, r: u32, table: &[u8]) {
-    io::write_all(1, b"fill: ");
+fn show_fill(rt: &impl Print, m: u32, r: u32, table: &[u8]) -> io::Result<()> {
+    rt.write_all(b"fill: ")?;
     let answer = fill(m, r, table);
     match answer {
         FillAnswer::Figure(x) => {
-            io::print_decimal(1, x as u64);
+            print!(rt; "{x}")?;
         }
-        FillAnswer::Refused(n) => test_print::refused(n),
+        FillAnswer::Refused(n) => test_print::refused(rt, n)?,
     }
-    test_print::end_line();
+    test_print::end_line(rt)
 }
 
-fn four_keys() {
+fn four_keys(rt: &impl Print) -> io::Result<()> {
     let mut table = [0u8; 20];
-    show_build(3, 4, &mut table, &[0x35, 0x31, 0x4C, 0x38]);
-    show_build(3, 4, &mut table, &[0x38, 0x4C, 0x31, 0x35]);
-    show_list(3, 4, &table);
-    show_find(3, 4, &table, 0x34);
-    show_find(3, 4, &table, 0x38);
-    show_fill(3, 4, &table);
+    show_build(rt, 3, 4, &mut table, &[0x35, 0x31, 0x4C, 0x38])?;
+    show_build(rt, 3, 4, &mut table, &[0x38, 0x4C, 0x31, 0x35])?;
+    show_list(rt, 3, 4, &table)?;
+    show_find(rt, 3, 4, &table, 0x34)?;
+    show_find(rt, 3, 4, &table, 0x38)?;
+    show_fill(rt, 3, 4, &table)?;
+    Ok(())
 }
 
-fn last_home() {
+fn last_home(rt: &impl Print) -> io::Result<()> {
     let mut table = [0u8; 20];
-    show_build(3, 4, &mut table, &[0x7F, 0x7E]);
-    show_find(3, 4, &table, 0x80);
-    show_put(3, 4, &mut table, 0x80);
-    show_build(3, 4, &mut table, &[0x80]);
-    show_build(3, 4, &mut table, &[]);
+    show_build(rt, 3, 4, &mut table, &[0x7F, 0x7E])?;
+    show_find(rt, 3, 4, &table, 0x80)?;
+    show_put(rt, 3, 4, &mut table, 0x80)?;
+    show_build(rt, 3, 4, &mut table, &[0x80])?;
+    show_build(rt, 3, 4, &mut table, &[])?;
+    Ok(())
 }
 
-fn full_table() {
+fn full_table(rt: &impl Print) -> io::Result<()> {
     let mut table = [0u8; 8];
-    show_build(1, 1, &mut table, &[0, 1]);
-    show_put(1, 1, &mut table, 2);
-    show_put(1, 1, &mut table, 1);
-    show_build(1, 1, &mut table, &[3, 2]);
+    show_build(rt, 1, 1, &mut table, &[0, 1])?;
+    show_put(rt, 1, 1, &mut table, 2)?;
+    show_put(rt, 1, 1, &mut table, 1)?;
+    show_build(rt, 1, 1, &mut table, &[3, 2])?;
+    Ok(())
 }
 
 // Equal remainders, a virgin bit alone, a lock, and a table that is one word short.
-fn refused_lists() {
-    show_list(1, 1, &[0, 0, 0, 0x30, 0, 0x50, 0, 0]);
-    show_list(1, 1, &[0, 0, 0, 0x20, 0, 0, 0, 0]);
-    show_list(1, 1, &[0, 0, 0, 0x80, 0, 0, 0, 0]);
-    show_list(1, 1, &[0, 0, 0, 0, 0, 0]);
+fn refused_lists(rt: &impl Print) -> io::Result<()> {
+    show_list(rt, 1, 1, &[0, 0, 0, 0x30, 0, 0x50, 0, 0])?;
+    show_list(rt, 1, 1, &[0, 0, 0, 0x20, 0, 0, 0, 0])?;
+    show_list(rt, 1, 1, &[0, 0, 0, 0x80, 0, 0, 0, 0])?;
+    show_list(rt, 1, 1, &[0, 0, 0, 0, 0, 0])?;
+    Ok(())
 }
 
-fn main() {
-    io::write_all(1, b"Shape 3, 4\n");
-    four_keys();
-    last_home();
-    io::write_all(1, b"Shape 1, 1\n");
-    full_table();
-    refused_lists();
+fn main(rt: HostRuntime) -> io::Result<()> {
+    rt.write_all(b"Shape 3, 4\n")?;
+    four_keys(&rt)?;
+    last_home(&rt)?;
+    rt.write_all(b"Shape 1, 1\n")?;
+    full_table(&rt)?;
+    refused_lists(&rt)?;
+    Ok(())
 }

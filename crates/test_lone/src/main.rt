@@ -3,83 +3,73 @@
 #![tactic(auto)]
 
 use rules::{Refusal, Task, Turn};
+use std::io;
 use task_fits::record::no_task;
 use task_step::give::give;
 use task_step::step::step;
 
-fn show_word(place: usize, low: u8, high: u8) {
+fn show_word(rt: &impl Print, place: usize, low: u8, high: u8) -> io::Result<()> {
     if low == 0 {
         if high == 0 {
-            return;
+            return Ok(());
         }
     }
-    io::write_all(1, b" ");
-    io::print_decimal(1, place as u64);
-    io::write_all(1, b": ");
-    test_print::word(low, high);
+    print!(rt; " {place}: ")?;
+    test_print::word(rt, low, high)
 }
 
-fn show_words(table: &[u8]) {
-    let mut i = 0;
-    while i < table.len() / 2 {
-        show_word(i, table[2 * i], table[2 * i + 1]);
-        i += 1;
+fn show_words(rt: &impl Print, table: &[u8]) -> io::Result<()> {
+    for i in 0..table.len() / 2 {
+        show_word(rt, i, table[2 * i], table[2 * i + 1])?;
     }
+    Ok(())
 }
 
-fn show_step(n: u8, t: Task, table: &[u8]) {
-    io::write_all(1, b"step ");
-    io::print_decimal(1, n as u64);
-    io::write_all(1, b", phase ");
-    io::print_decimal(1, t.phase as u64);
-    io::write_all(1, b",");
-    show_words(table);
-    test_print::end_line();
+fn show_step(rt: &impl Print, n: u8, t: Task, table: &[u8]) -> io::Result<()> {
+    let phase = t.phase;
+    print!(rt; "step {n}, phase {phase},")?;
+    show_words(rt, table)?;
+    test_print::end_line(rt)
 }
 
-fn show_answer(t: Task) {
-    io::write_all(1, b"answer ");
-    io::print_decimal(1, t.answer as u64);
-    test_print::end_line();
+fn show_answer(rt: &impl Print, t: Task) -> io::Result<()> {
+    let answer = t.answer;
+    print!(rt; "answer {answer}")?;
+    test_print::end_line(rt)
 }
 
-fn show_refusal(n: Refusal) {
-    io::write_all(1, b"task:");
-    test_print::refused(n);
-    test_print::end_line();
+fn show_refusal(rt: &impl Print, n: Refusal) -> io::Result<()> {
+    rt.write_all(b"task:")?;
+    test_print::refused(rt, n)?;
+    test_print::end_line(rt)
 }
 
 // At most 20 steps, each shown, until the task is done. A refused step is the last thing shown.
-fn run(table: &mut [u8], first: Task) {
+fn run(rt: &impl Print, table: &mut [u8], first: Task) -> io::Result<()> {
     let mut t = first;
-    let mut n: u8 = 0;
-    while n < 20 {
+    for n in 0u8..20 {
         if t.phase == 13 {
-            show_answer(t);
-            return;
+            return show_answer(rt, t);
         }
-        n += 1;
-        let turn = step(3, 4, table, t);
-        match turn {
+        match step(3, 4, table, t) {
             Turn::Next(u) => {
-                show_step(n, u, table);
+                show_step(rt, n + 1, u, table)?;
                 t = u;
             }
             Turn::Refused(r) => {
-                show_refusal(r);
-                return;
+                return show_refusal(rt, r);
             }
         }
     }
+    Ok(())
 }
 
-fn main() {
+fn main(rt: HostRuntime) -> io::Result<()> {
     let mut table: [u8; 20] = [0; 20];
     table[8] = 0x05;
     table[9] = 0x70;
-    let turn = give(3, 4, 0x31, no_task());
-    match turn {
-        Turn::Next(t) => run(&mut table, t),
-        Turn::Refused(n) => show_refusal(n),
+    match give(3, 4, 0x31, no_task()) {
+        Turn::Next(t) => run(&rt, &mut table, t),
+        Turn::Refused(n) => show_refusal(&rt, n),
     }
 }

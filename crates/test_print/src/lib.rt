@@ -5,6 +5,7 @@
 ghost use Rattle.std.specs.Prelude.{◌<◌};
 
 use rules::Refusal;
+use std::io;
 use table_packed::refusal_number;
 
 fn digit(d: u8) -> u8
@@ -16,46 +17,44 @@ fn digit(d: u8) -> u8
     }
 }
 
-fn byte(b: u8) {
+fn byte(rt: &impl Print, b: u8) -> io::Result<()> {
     let text = [digit(b / 16), digit(b % 16)];
-    io::write_all(1, &text);
+    rt.write_all(&text)
 }
 
-pub fn key(k: u32) {
-    byte((k % 256) as u8);
+pub fn key(rt: &impl Print, k: u32) -> io::Result<()> {
+    byte(rt, (k % 256) as u8)
 }
 
 // A blank and a key, for each key.
-pub fn keys(ks: &[u32]) {
-    let mut i = 0;
-    while i < ks.len() {
-        io::write_all(1, b" ");
-        key(ks[i]);
-        i += 1;
+pub fn keys(rt: &impl Print, ks: &[u32]) -> io::Result<()> {
+    for k in ks {
+        rt.write_all(b" ")?;
+        key(rt, *k)?;
     }
+    Ok(())
 }
 
 // A word is two bytes, low byte first.
-pub fn word(low: u8, high: u8) {
-    byte(high);
-    byte(low);
+pub fn word(rt: &impl Print, low: u8, high: u8) -> io::Result<()> {
+    byte(rt, high)?;
+    byte(rt, low)
 }
 
 // A blank and a word, for each word of a table.
-pub fn words(table: &[u8]) {
-    let mut i = 0;
-    while i < table.len() / 2 {
-        io::write_all(1, b" ");
-        word(table[2 * i], table[2 * i + 1]);
-        i += 1;
+pub fn words(rt: &impl Print, table: &[u8]) -> io::Result<()> {
+    for i in 0..table.len() / 2 {
+        rt.write_all(b" ")?;
+        word(rt, table[2 * i], table[2 * i + 1])?;
     }
+    Ok(())
 }
 
-pub fn refused(n: Refusal) {
-    io::write_all(1, b" refused ");
-    io::print_decimal(1, refusal_number(n) as u64);
+pub fn refused(rt: &impl Print, n: Refusal) -> io::Result<()> {
+    let number = refusal_number(n);
+    print!(rt; " refused {number}")
 }
 
-pub fn end_line() {
-    io::write_all(1, b"\n");
+pub fn end_line(rt: &impl Print) -> io::Result<()> {
+    rt.write_all(b"\n")
 }
