@@ -5,8 +5,10 @@
 use frame_feed::feed::{begin, feed};
 use frame_feed::finish::finish;
 use frame_rules::{FeedAnswer, FinishAnswer, Run};
+use std::io;
+use std::io::Read;
 
-// How far the input is: there is more, it has ended, or a read or a write has failed.
+// How far the input is: there is more, it has ended, or a call was refused.
 #[derive(Clone, Copy)]
 enum Input {
     More,
@@ -22,11 +24,12 @@ struct State {
 }
 
 // The first n bytes of the output.
-fn write_front(out: &[u8], n: usize) -> bool {
+fn write_front(rt: &impl Print, out: &[u8], n: usize) -> io::Result<bool> {
     if n <= out.len() {
-        io::write_all(1, &out[0..n])
+        rt.write_all(&out[0..n])?;
+        Ok(true)
     } else {
-        false
+        Ok(false)
     }
 }
 
@@ -46,96 +49,108 @@ fn going_on(run: Run) -> State {
 }
 
 // The lines of a piece, one feed each: as many feeds as the piece has bytes are enough.
-fn feed_piece(run: Run, piece: &[u8], line: &mut [u8], table: &mut [u8], out: &mut [u8]) -> State {
+fn feed_piece(
+    rt: &impl Print,
+    run: Run,
+    piece: &[u8],
+    line: &mut [u8],
+    table: &mut [u8],
+    out: &mut [u8],
+) -> io::Result<State> {
     let mut now = run;
     let mut at = 0;
-    let mut turns = piece.len();
-    while 0 < turns {
+    for _ in 0..piece.len() {
         if piece.len() <= at {
-            return going_on(now);
+            return Ok(going_on(now));
         }
-        let fed = feed(now, piece, at, line, table, out);
-        match fed {
+        match feed(now, piece, at, line, table, out) {
             FeedAnswer::Fed(next, point, wrote) => {
-                if write_front(out, wrote) {
+                if write_front(rt, out, wrote)? {
                     now = next;
                     at = point;
                 } else {
-                    return failed(now);
+                    return Ok(failed(now));
                 }
             }
             FeedAnswer::Refused(_) => {
-                return failed(now);
+                return Ok(failed(now));
             }
         }
-        turns -= 1;
     }
-    going_on(now)
+    Ok(going_on(now))
 }
 
-// One read, and the lines in what came.
-fn turn(run: Run, piece: &mut [u8], line: &mut [u8], table: &mut [u8], out: &mut [u8]) -> State {
-    let got = libc::read(0, piece);
-    if got < 0 {
-        return failed(run);
-    }
-    if got == 0 {
-        return State {
+// One read, and the lines in what came. A read or a write that fails ends the program with its error.
+fn turn(
+    rt: &HostRuntime,
+    run: Run,
+    piece: &mut [u8],
+    line: &mut [u8],
+    table: &mut [u8],
+    out: &mut [u8],
+) -> io::Result<State> {
+    let n = rt.stdin().read(piece)?;
+    if n == 0 {
+        return Ok(State {
             run: run,
             input: Input::Ended,
-        };
+        });
     }
-    let n = io::count(got, piece);
-    feed_piece(run, &piece[0..n], line, table, out)
+    feed_piece(rt, run, &piece[0..n], line, table, out)
 }
 
-// Nothing says that the input ends, so the turns are counted down from a number that no run uses up.
-fn all_pieces(piece: &mut [u8], line: &mut [u8], table: &mut [u8], out: &mut [u8]) -> State {
+// Nothing says that the input ends, so the turns are counted to a number that no run uses up.
+fn all_pieces(
+    rt: &HostRuntime,
+    piece: &mut [u8],
+    line: &mut [u8],
+    table: &mut [u8],
+    out: &mut [u8],
+) -> io::Result<State> {
     let mut run = begin();
-    let mut turns = u64::MAX;
-    while 0 < turns {
-        let s = turn(run, piece, line, table, out);
-        let input = s.input;
-        match input {
+    for _ in 0..u64::MAX {
+        let s = turn(rt, run, piece, line, table, out)?;
+        match s.input {
             Input::More => {
                 run = s.run;
-                turns -= 1;
             }
             Input::Ended => {
-                return s;
+                return Ok(s);
             }
             Input::Failed => {
-                return s;
+                return Ok(s);
             }
         }
     }
-    failed(run)
+    Ok(failed(run))
 }
 
 // The last line may lack its line feed; then the table is printed.
-fn last(s: State, line: &[u8], table: &mut [u8], out: &mut [u8]) {
-    let input = s.input;
-    let run = s.run;
-    match input {
-        Input::Ended => {
-            let done = finish(run, line, table, out);
-            match done {
-                FinishAnswer::Wrote(n) => {
-                    write_front(out, n);
-                }
-                FinishAnswer::Refused(_) => {}
+fn last(
+    rt: &impl Print,
+    s: State,
+    line: &[u8],
+    table: &mut [u8],
+    out: &mut [u8],
+) -> io::Result<()> {
+    match s.input {
+        Input::Ended => match finish(s.run, line, table, out) {
+            FinishAnswer::Wrote(n) => {
+                write_front(rt, out, n)?;
             }
-        }
+            FinishAnswer::Refused(_) => {}
+        },
         Input::More => {}
         Input::Failed => {}
     }
+    Ok(())
 }
 
-fn main() {
+fn main(rt: HostRuntime) -> io::Result<()> {
     let mut piece = [0u8; 65536];
     let mut line = [0u8; 4096];
     let mut table = [0u8; 32772];
     let mut out = [0u8; 66570];
-    let s = all_pieces(&mut piece, &mut line, &mut table, &mut out);
-    last(s, &line, &mut table, &mut out);
+    let s = all_pieces(&rt, &mut piece, &mut line, &mut table, &mut out)?;
+    last(&rt, s, &line, &mut table, &mut out)
 }
