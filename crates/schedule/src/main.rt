@@ -4,16 +4,23 @@
 
 mod pieces;
 
-ghost use Rattle.std.specs.Prelude.{◌≡◌, ◌≤◌, length};
+ghost use Rattle.std.specs.Prelude.{◌≡◌, ◌≤◌, length, IfOk};
 ghost use Rattle.schedule.specs.Held.{Held};
 
 use crate::pieces::{State, close, turn};
+use std::io;
 use test_schedule::run::{begun, end_of};
 
-// Nothing says that the input ends, so the turns are counted down from a number that no run uses up.
-fn all_pieces(piece: &mut [u8], line: &mut [u8], table: &mut [u8], out: &mut [u8]) -> State
+// Nothing says that the input ends, so the turns are counted to a number that no run uses up.
+fn all_pieces(
+    rt: &HostRuntime,
+    piece: &mut [u8],
+    line: &mut [u8],
+    table: &mut [u8],
+    out: &mut [u8],
+) -> io::Result<State>
     requires { length out.old ≡ 65577 }
-    ensures { Held result line.new }
+    ensures { IfOk result (λ s. Held s line.new) }
 {
     let mut s = State {
         run: begun(),
@@ -23,45 +30,56 @@ fn all_pieces(piece: &mut [u8], line: &mut [u8], table: &mut [u8], out: &mut [u8
     };
     let mut turns = u64::MAX;
     while turns > 0 {
-        s = turn(s, piece, line, table, out);
+        s = turn(rt, s, piece, line, table, out)?;
         if s.more {
             turns -= 1;
         } else {
-            return s;
+            return Ok(s);
         }
     }
-    s
+    Ok(s)
 }
 
 // The last line may lack its line feed.
-fn last_line(s: State, line: &[u8], table: &mut [u8], out: &mut [u8]) -> State
+fn last_line(
+    rt: &impl Print,
+    s: State,
+    line: &[u8],
+    table: &mut [u8],
+    out: &mut [u8],
+) -> io::Result<State>
     requires { (Held s line.now) × (length out.old ≡ 65577) }
-    ensures { result.filled ≤ 65536 }
+    ensures { IfOk result (λ t. t.filled ≤ 65536) }
 {
     if s.held > 0 {
-        return close(s, line, table, out);
+        return close(rt, s, line, table, out);
     }
-    s
+    Ok(s)
 }
 
 // What is printed last is laid where lines were held.
-fn finish(s: State, line: &mut [u8], table: &mut [u8], out: &mut [u8])
+fn finish(
+    rt: &impl Print,
+    s: State,
+    line: &mut [u8],
+    table: &mut [u8],
+    out: &mut [u8],
+) -> io::Result<()>
     requires { (Held s line.old) × ((length out.old ≡ 65577) × (41 ≤ length line.old)) }
 {
-    let t = last_line(s, line, table, out);
+    let t = last_line(rt, s, line, table, out)?;
     let filled = t.filled;
     let run = t.run;
-    if io::write_all(1, &out[0..filled]) {
-        let n = end_of(run, table, line);
-        io::write_all(1, &line[0..n]);
-    }
+    rt.write_all(&out[0..filled])?;
+    let n = end_of(run, table, line);
+    rt.write_all(&line[0..n])
 }
 
-fn main() {
+fn main(rt: HostRuntime) -> io::Result<()> {
     let mut piece = [0u8; 65536];
     let mut line = [0u8; 65545];
     let mut table = [0u8; 32772];
     let mut out = [0u8; 65577];
-    let s = all_pieces(&mut piece, &mut line, &mut table, &mut out);
-    finish(s, &mut line, &mut table, &mut out);
+    let s = all_pieces(&rt, &mut piece, &mut line, &mut table, &mut out)?;
+    finish(&rt, s, &mut line, &mut table, &mut out)
 }

@@ -1,9 +1,11 @@
 // The input in pieces, one read each. Lines are cut at their line feeds; a line begun is held until its end is read.
 // What is printed is gathered, and written once a piece or when there is no room for one more line.
-ghost use Rattle.std.specs.Prelude.{◌≡◌, ◌≤◌, length};
+ghost use Rattle.std.specs.Prelude.{◌≡◌, ◌≤◌, length, IfOk};
 ghost use Rattle.schedule.specs.Held.{Held};
 
-use test_schedule::run::{Run, ended, is_ended, line_in};
+use std::io;
+use std::io::Read;
+use test_schedule::run::{Run, is_ended, line_in};
 
 // The run, how many bytes of the line begun are held, how many printed bytes wait, and whether to read on.
 #[derive(Clone, Copy)]
@@ -50,57 +52,57 @@ fn hold(text: &[u8], line: &mut [u8], held: usize) -> usize
 }
 
 // No line is held. What waits is written where there is no room for one more line.
-fn after_line(run: Run, filled: usize, out: &[u8]) -> State
+fn after_line(rt: &impl Print, run: Run, filled: usize, out: &[u8]) -> io::Result<State>
     requires { (filled ≤ 65577) × (length out.now ≡ 65577) }
-    ensures { (result.held ≡ 0) × (result.filled ≤ 65536) }
+    ensures { IfOk result (λ s. (s.held ≡ 0) × (s.filled ≤ 65536)) }
 {
     if filled <= 65536 {
-        return State {
+        return Ok(State {
             run: run,
             held: 0,
             filled: filled,
             more: true,
-        };
+        });
     }
-    if io::write_all(1, &out[0..filled]) {
-        return State {
-            run: run,
-            held: 0,
-            filled: 0,
-            more: true,
-        };
-    }
-    State {
-        run: ended(run, 0),
+    rt.write_all(&out[0..filled])?;
+    Ok(State {
+        run: run,
         held: 0,
         filled: 0,
-        more: false,
-    }
+        more: true,
+    })
 }
 
 // The line that is held is whole.
-pub fn close(s: State, line: &[u8], table: &mut [u8], out: &mut [u8]) -> State
+pub fn close(
+    rt: &impl Print,
+    s: State,
+    line: &[u8],
+    table: &mut [u8],
+    out: &mut [u8],
+) -> io::Result<State>
     requires { (Held s line.now) × (length out.old ≡ 65577) }
-    ensures { (result.held ≡ 0) × (result.filled ≤ 65536) }
+    ensures { IfOk result (λ t. (t.held ≡ 0) × (t.filled ≤ 65536)) }
 {
     let held = s.held;
     let filled = s.filled;
     let before = s.run;
     let run = line_in(before, &line[0..held], table, &mut out[filled..]);
-    after_line(run, filled + run.wrote, out)
+    after_line(rt, run, filled + run.wrote, out)
 }
 
 // A part of a line, and whether its line feed follows.
 fn part(
+    rt: &impl Print,
     s: State,
     text: &[u8],
     whole: bool,
     line: &mut [u8],
     table: &mut [u8],
     out: &mut [u8],
-) -> State
+) -> io::Result<State>
     requires { (Held s line.old) × (length out.old ≡ 65577) }
-    ensures { Held result line.new }
+    ensures { IfOk result (λ t. Held t line.new) }
 {
     let before = s.run;
     let t = State {
@@ -110,63 +112,54 @@ fn part(
         more: s.more,
     };
     if whole {
-        return close(t, line, table, out);
+        return close(rt, t, line, table, out);
     }
-    t
+    Ok(t)
 }
 
 // What waits is written at the end of the piece.
-fn after_piece(s: State, out: &[u8]) -> State
+fn after_piece(rt: &impl Print, s: State, out: &[u8]) -> io::Result<State>
     requires { s.filled ≤ length out.now }
-    ensures { (result.held ≡ s.held) × (result.filled ≡ 0) }
+    ensures { IfOk result (λ t. (t.held ≡ s.held) × (t.filled ≡ 0)) }
 {
     let run = s.run;
-    let filled = s.filled;
-    if io::write_all(1, &out[0..filled]) {
-        return State {
-            run: run,
-            held: s.held,
-            filled: 0,
-            more: !is_ended(run),
-        };
-    }
-    State {
-        run: ended(run, 0),
+    rt.write_all(&out[0..s.filled])?;
+    Ok(State {
+        run: run,
         held: s.held,
         filled: 0,
-        more: false,
-    }
+        more: !is_ended(run),
+    })
 }
 
 // Every line that ends in the piece; the rest is held.
-fn feed(s: State, piece: &[u8], line: &mut [u8], table: &mut [u8], out: &mut [u8]) -> State
+fn feed(
+    rt: &impl Print,
+    s: State,
+    piece: &[u8],
+    line: &mut [u8],
+    table: &mut [u8],
+    out: &mut [u8],
+) -> io::Result<State>
     requires fact_1 { Held s line.old }
     requires fact_2 { length out.old ≡ 65577 }
-    ensures { Held result line.new }
+    ensures { IfOk result (λ t. Held t line.new) }
 {
     let mut t = s;
     let mut i = 0;
     while i < piece.len() {
         let e = line_end(piece, i);
-        t = part(t, &piece[i..e], e < piece.len(), line, table, out);
+        t = part(rt, t, &piece[i..e], e < piece.len(), line, table, out)?;
         i = e + 1;
     }
-    after_piece(t, out)
+    after_piece(rt, t, out)
 }
 
-// No more is read: the input has ended, or a read has failed.
-fn no_more(s: State, failed: bool) -> State
+// No more is read: the input has ended.
+fn no_more(s: State) -> State
     ensures { (result.held ≡ s.held) × (result.filled ≡ s.filled) }
 {
     let run = s.run;
-    if failed {
-        return State {
-            run: ended(run, 0),
-            held: s.held,
-            filled: s.filled,
-            more: false,
-        };
-    }
     State {
         run: run,
         held: s.held,
@@ -175,15 +168,21 @@ fn no_more(s: State, failed: bool) -> State
     }
 }
 
-// One read, and the lines in what came.
-pub fn turn(s: State, piece: &mut [u8], line: &mut [u8], table: &mut [u8], out: &mut [u8]) -> State
+// One read, and the lines in what came. A read or a write that fails ends the program with its error.
+pub fn turn(
+    rt: &HostRuntime,
+    s: State,
+    piece: &mut [u8],
+    line: &mut [u8],
+    table: &mut [u8],
+    out: &mut [u8],
+) -> io::Result<State>
     requires { (Held s line.old) × (length out.old ≡ 65577) }
-    ensures { Held result line.new }
+    ensures { IfOk result (λ t. Held t line.new) }
 {
-    let got = libc::read(0, piece);
-    if got <= 0 {
-        return no_more(s, got < 0);
+    let n = rt.stdin().read(piece)?;
+    if n == 0 {
+        return Ok(no_more(s));
     }
-    let n = io::count(got, piece);
-    feed(s, &piece[0..n], line, table, out)
+    feed(rt, s, &piece[0..n], line, table, out)
 }
