@@ -1,27 +1,27 @@
 # The benchmark where the archives do not link, on Arm: LLVM bitcode recompiled for the machine, to be timed, and the
-# x86-64 code's instructions counted by an emulator. Sourced by bench/run, which has out, clang, own and launcher.
+# x86-64 code's instructions counted by an emulator. Sourced by bench/run, which has out, clang, tools and launcher.
 
 # A folder that stands for the kit: all links, but its clang keeps the bitcode that it is given, then does as told.
 stand_in_kit() {
-    local tools=$out/kit/on/$(uname -m)/toolchain entry
-    rm -rf "$out/kit"
-    mkdir -p "$tools/bin"
-    for entry in "$kit"/*; do [ "${entry##*/}" = on ] || ln -s "$entry" "$out/kit/"; done
-    for entry in "$own"/*; do [ "${entry##*/}" = toolchain ] || ln -s "$entry" "${tools%/*}/"; done
-    for entry in "$own/toolchain"/*; do [ "${entry##*/}" = bin ] || ln -s "$entry" "$tools/"; done
-    for entry in "$own/toolchain/bin"/*; do [ "${entry##*/}" = clang ] || ln -s "$entry" "$tools/bin/"; done
+    local stand=$PWD/$out/kit entry
+    rm -rf "$stand"
+    mkdir -p "$stand/toolchain/bin"
+    for entry in "$kit"/*; do [ "${entry##*/}" = toolchain ] || ln -s "$entry" "$stand/"; done
+    for entry in "$tools"/*; do [ "${entry##*/}" = bin ] || ln -s "$entry" "$stand/toolchain/"; done
+    for entry in "$tools/bin"/*; do [ "${entry##*/}" = clang ] || ln -s "$entry" "$stand/toolchain/bin/"; done
     {
         echo '#!/bin/sh'
         echo "for word; do case \$word in *.bc) cp \"\$word\" '$PWD/$out/module.bc' ;; esac; done"
         echo "exec '$clang' \"\$@\""
-    } >"$tools/bin/clang"
-    chmod +x "$tools/bin/clang"
+    } >"$stand/toolchain/bin/clang"
+    chmod +x "$stand/toolchain/bin/clang"
 }
 
 # Proves and builds an archive as rt does, and compiles its bitcode once more, for this machine, at the same level.
 recompile() { # NAME
     rm -f "$out/module.bc"
-    RATTLE_HOME=$PWD/$out/kit rt staticlib "$1" >"$out/$1.log" 2>&1 || { cat "$out/$1.log"; return 1; }
+    local stand=$PWD/$out/kit
+    (cd "crates/$1" && "$stand/bin/rt" lib) >"$out/$1.log" 2>&1 || { cat "$out/$1.log"; return 1; }
     [ -f "$out/module.bc" ] || { echo "bench/run: no bitcode of $1 was seen"; return 1; }
     mv "$out/module.bc" "$out/$1.bc"
     "$clang" "--target=$(uname -m)-linux-gnu" -O3 -fPIC -mllvm -trap-unreachable -mllvm -no-trap-after-noreturn \
@@ -33,7 +33,8 @@ compile_count() {
     "$clang" --target=x86_64-unknown-linux-gnu -O3 -fPIC -nostdinc -Wall -Wextra -Werror -c bench/twin.c \
         -o "$out/twin-x86-64.o"
     compile bench/count.c "$out/count.o"
-    link "$out/count" "$out/count.o" "$out/twin-x86-64.o" target/staticlib/libfirmware.a target/staticlib/libhostcalls.a
+    link "$out/count" "$out/count.o" "$out/twin-x86-64.o" \
+        crates/firmware/out/libfirmware.a crates/hostcalls/out/libhostcalls.a
 }
 
 # Whether these words count; counter is then the whole of what runs the count program. The plainest processor, since a
@@ -54,7 +55,7 @@ find_counter() {
         counts qemu-x86_64 -plugin "$out/insns.so" && return 0
     done
     shapes=("10 12")
-    for emulator in "$own/toolchain/bin/qemu-x86_64" qemu-x86_64; do
+    for emulator in "$tools/bin/qemu-x86_64" qemu-x86_64; do
         for one in -one-insn-per-tb -singlestep; do
             counts "$emulator" "$one" -d exec,nochain && return 0
         done

@@ -1,7 +1,7 @@
 -- The table that is all zero: it is sound and without locks, and lists nothing (it is the build of nothing).
 -- Its used part, of the 32,772 bytes with which a run begins.
 -- Assumes nothing.
-use Rattle.std.specs.Prelude.{ℕ, ◌*◌, ◌≤◌, ◌≡◌, true, ◌&&◌, length}
+use Rattle.std.specs.Prelude.{ℕ, ◌*◌, ◌≤◌, ◌≡◌, true, length}
 use Rattle.std.proofs.Math.Path.{refl, ap}
 use Rattle.std.proofs.Common.{sym, ◌∙◌, subst, pow_mono, eq-eqb}
 use mathlib.Core.List.{List, []}

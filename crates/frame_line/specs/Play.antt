@@ -5,7 +5,6 @@ use Rattle.std.specs.Prelude.{ℕ, ◌+◌, ◌*◌, ◌≤◌, ◌<◌, ◌≡�
 use Rattle.std.proofs.Math.Path.{ap, ap₂}
 use Rattle.std.proofs.Common.{◌∙◌, append-nil, mul-le-mul_right, arith, drop_of_length-le}
 use Rattle.rules.specs.declared.Shape.{Shape}
-use Rattle.rules.specs.Lists.{all}
 use Rattle.rules.specs.Shape.{places}
 use Rattle.rules.specs.Record.{no_task}
 use Rattle.table_words.specs.Clear.{take_replicate}

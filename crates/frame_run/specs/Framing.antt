@@ -2,7 +2,7 @@
 -- frame_line, and `text_closed` closes it. `frame_whole`, `frame_long`: a line held whole, and one too long. `first_in`
 -- to `ended_in`: by stage.
 -- Assumes nothing.
-use Rattle.std.specs.Prelude.{ℕ, ◌+◌, ◌-◌, ◌*◌, ◌≤◌, ◌<◌, ◌≡◌, Bool, length}
+use Rattle.std.specs.Prelude.{ℕ, ◌-◌, ◌*◌, ◌≤◌, ◌<◌, ◌≡◌, Bool, length}
 use Rattle.std.proofs.Math.Path.{refl, ap}
 use Rattle.std.proofs.Common.{subst, ◌∙◌, arith, take-append-drop, length-take-le}
 use Rattle.std.proofs.Math.Bool.{true, false, cond, and-eq-true_iff}

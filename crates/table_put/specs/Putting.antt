@@ -3,10 +3,9 @@
 -- `bytes_left`: what is said of the words that put leaves is said of every lent byte.
 -- Assumes nothing.
 use Rattle.std.specs.Prelude.{ℕ, suc, ◌+◌, ◌*◌, ◌≤◌, ◌<◌, ◌≡◌, refl, Bool, true, false, cond, List, length, get_or, set}
-use Rattle.std.proofs.Common.{sym, ◌∙◌, eq-eqb, ne_eqb}
+use Rattle.std.proofs.Common.{sym, ◌∙◌}
 use Rattle.std.proofs.Math.Path.{ap}
 use native.Mathlib.Omega.{arith}
-use Rattle.std.proofs.Math.Seq.{length-slice}
 use Rattle.rules.specs.declared.Shape.{Shape}
 use Rattle.rules.specs.Lists.{any}
 use Rattle.rules.specs.Word.{Word, is_void, alone_word}

@@ -1,8 +1,8 @@
 -- When a record fits (01, Tasks and their steps). `Fits`: what holds of a busy one; `fitting`: its test tells it.
 -- `fits_resting` to `fits_beyond`: what is asked in each phase.
 -- Assumes nothing.
-use Rattle.std.specs.Prelude.{ℕ, suc, ◌≤◌, ◌<◌, ◌≡◌, refl, Bool, true, false, not, ◌&&◌, ◌||◌, ◌≢◌, ◌⊎◌, ltb, leb, eqb}
-use Rattle.std.proofs.Common.{sym, true≢false, inl, inr, arith}
+use Rattle.std.specs.Prelude.{ℕ, suc, ◌≤◌, ◌<◌, ◌≡◌, refl, Bool, true, false, not, ◌&&◌, ◌||◌, ◌≢◌, ltb, leb, eqb}
+use Rattle.std.proofs.Common.{sym, true≢false, inl, arith}
 use Rattle.std.proofs.Math.Bool.{and-true, and-eq-true_iff}
 use borrow.Author.Tests.{le-leb, lt-leb, eq-eqb, ne_eqb, ltb-true, leb-true, eqb-false, not-true}
 use Rattle.rules.specs.declared.Shape.{Shape}

@@ -93,8 +93,8 @@ fn step_none(m: u32, r: u32, len: usize) -> Done
 
 // One of n records has it.
 fn step_at(m: u32, r: u32, table: &mut [u8], n: usize, t: Task) -> After
-    ensures { leaves (done_says result.done) (record { table = table.exit.now; task = result.task })
-        ≡ step_at (shape_of m r) table.entry.now n t }
+    ensures { leaves (done_says result.done) (record { table = table.new; task = result.task })
+        ≡ step_at (shape_of m r) table.old n t }
 {
     if n <= 16 {
         return turned(t, step_one(m, r, table, t));
@@ -109,8 +109,8 @@ fn step_at(m: u32, r: u32, table: &mut [u8], n: usize, t: Task) -> After
 
 // One step of a task (01, Tasks and their steps). The slice of records is walked by hand.
 pub fn step(m: u32, r: u32, table: &mut [u8], tasks: &mut [Task], i: usize) -> Done
-    ensures { leaves (done_says result) (record { table = table.exit.now; tasks = tasks.new })
-        ≡ stepping.step (shape_of m r) table.entry.now tasks.old i }
+    ensures { leaves (done_says result) (record { table = table.new; tasks = tasks.new })
+        ≡ stepping.step (shape_of m r) table.old tasks.old i }
 {
     let n = tasks.len();
     if i < n {
@@ -149,8 +149,8 @@ pub fn give_all(m: u32, r: u32, key: u32, tasks: [Task; 16], n: usize, i: usize)
 
 // Step likewise.
 pub fn step_all(m: u32, r: u32, table: &mut [u8], tasks: [Task; 16], n: usize, i: usize) -> Kept
-    ensures { leaves (done_says result.done) (record { table = table.exit.now; tasks = result.tasks })
-        ≡ step_all (shape_of m r) table.entry.now tasks n i }
+    ensures { leaves (done_says result.done) (record { table = table.new; tasks = result.tasks })
+        ≡ step_all (shape_of m r) table.old tasks n i }
 {
     if n <= 16 {
         let mut lent = tasks;

@@ -18,9 +18,9 @@ use Rattle.rules.specs.Word.{Word, zero_word, lock_word, filled_with, is_void, i
 use Rattle.rules.specs.Shape.{homes, remainders, keys, places, right_guard}
 use Rattle.rules.specs.Entry.{Entry, split, same_entry}
 use Rattle.rules.specs.Table.{at, occupied_places, left_gap, right_gap, entries_between, cluster_entries}
-use Rattle.rules.specs.Room.{place, full, room_for}
+use Rattle.rules.specs.Room.{place, room_for}
 use Rattle.rules.specs.Lay.{holds, insert, smaller, mark_of}
-use Rattle.rules.specs.Put.{add_at, enlarged_from, Outcome, keeps, put_in, words_after}
+use Rattle.rules.specs.Put.{add_at, enlarged_from, Outcome, put_in, words_after}
 use Rattle.rules.specs.Record.{home_place_of, to_phase, with_left, with_answer, task_at, again}
 use Rattle.rules.specs.Phase as phase
 use Rattle.rules.specs.Phase.{to, unsound, moves_on}

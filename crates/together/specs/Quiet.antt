@@ -10,7 +10,7 @@ use Rattle.std.proofs.lemmas.List.{length-map}
 use Rattle.rules.specs.declared.Shape.{Shape}
 use Rattle.rules.specs.declared.Task.{Task}
 use Rattle.rules.specs.Word.{Word, lock_word, with_lock}
-use Rattle.rules.specs.Shape.{remainders, places}
+use Rattle.rules.specs.Shape.{remainders}
 use Rattle.rules.specs.Entry.{Entry}
 use Rattle.rules.specs.Table.{at, occupied_places}
 use Rattle.rules.specs.Record.{task_at}

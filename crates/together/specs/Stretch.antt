@@ -6,7 +6,7 @@ use Rattle.std.proofs.Common.{sym, ap, ◌∙◌, subst, inl, inr, true≢false,
 use Rattle.rules.specs.declared.Shape.{Shape}
 use Rattle.rules.specs.declared.Task.{Task}
 use Rattle.rules.specs.Word.{Word}
-use Rattle.rules.specs.Shape.{remainders, places}
+use Rattle.rules.specs.Shape.{remainders}
 use Rattle.rules.specs.Entry.{Entry}
 use Rattle.rules.specs.Table.{at, occupied_places}
 use Rattle.rules.specs.Record.{task_at}

@@ -2,7 +2,7 @@
 -- and what a step by number is. The fill of an empty home is elsewhere (Commit).
 -- Assumes nothing.
 use Prim.Native.Nat.{ℕ, ◌+◌, ◌-◌, ◌≤◌, ◌<◌}
-use Rattle.std.specs.Prelude.{◌≡◌, ◌⊎◌, ◌≢◌, Bool, not, cond, ◌&&◌, ◌||◌, List, eqb, leb}
+use Rattle.std.specs.Prelude.{◌≡◌, ◌⊎◌, ◌≢◌, Bool, not, ◌&&◌, ◌||◌, List, eqb, leb}
 use Rattle.std.proofs.Math.Path.{refl, ap}
 use Rattle.std.proofs.Common.{sym, ap₂, ◌∙◌, subst, ⊎_elim, inr, true≢false, arith, le-leb}
 use Rattle.std.proofs.Math.Logic.{inl}

@@ -82,7 +82,7 @@ fn calls(drive: &mut Drive, seed: u64, times: usize) {
 }
 
 fn schedules(drive: &mut Drive, seed: u64, times: usize) {
-    let program = "target/bin/schedule";
+    let program = "crates/schedule/out/schedule";
     records_cases::malformed(drive, program);
     let actions = records_cases::random(drive, program, seed, 200 * times);
     println!("schedules: {actions} actions on random records and any tables, in {} runs", 200 * times);
@@ -95,6 +95,6 @@ fn schedules(drive: &mut Drive, seed: u64, times: usize) {
 
 fn frames(drive: &mut Drive, seed: u64, times: usize) {
     println!("frames: {} stored cases are what the independent rules say", frames::stored("tests/frame/cases"));
-    frames::random(drive, "target/bin/frame", seed, 1000 * times);
+    frames::random(drive, "crates/frame/out/frame", seed, 1000 * times);
     println!("frames: {} inputs, about half of them spoiled", 1000 * times);
 }

@@ -1,6 +1,5 @@
 -- `length_from` meets its contract. The invariant: the line from i on ends where the line from the start on does.
 -- Assumes nothing.
-use Prim.Native.Nat.{◌-◌}
 use native.Mathlib.Omega.{arith}
 use Rattle.frame_reader.specs.Line.{line_met, line_passed, line_over}
 use Rattle.frame_reader.proofs.length_from.Goals as goal

@@ -9,5 +9,5 @@ overflow_add-result c =
     let at = c.args.r.at in
     let ends = at + c.length_from.result in
     let small : ends < 2 ^ 64 =
-        end_below c.args.r.src.now at ends (omega (arith, c.length_from.ensures)) (2 ^ 64) (omega arith) (omega arith) in
+    end_below c.args.r.src.now at ends (omega (arith, c.length_from.ensures)) (2 ^ 64) (omega arith) (omega arith) in
     omega (arith, small)

@@ -1,7 +1,6 @@
 -- `append` meets its contract. The invariant is `Copied`; the measure, how many bytes are still to be copied.
 -- Assumes nothing.
 use Rattle.std.proofs.Common.{rules}
-use Prim.Native.Nat.{◌-◌}
 use Rattle.frame_buffers.specs.Hold.{copied_none, copied_more, copied_all}
 use Rattle.frame_buffers.proofs.hold.append.Goals as goal
 

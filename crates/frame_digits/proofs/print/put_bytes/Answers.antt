@@ -1,6 +1,5 @@
 -- `put_bytes` meets its contract. The invariant is `Printing`; the measure, how many bytes are left.
 -- Assumes nothing.
-use Prim.Native.Nat.{◌-◌}
 use Rattle.frame_digits.specs.Print.{printing_begins, printing_on, printing_ends}
 use Rattle.frame_digits.proofs.print.put_bytes.Goals as goal
 

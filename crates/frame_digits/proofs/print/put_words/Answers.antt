@@ -1,6 +1,5 @@
 -- `put_words` meets its contract. The invariant is `Wording`; the measure, how many words are left.
 -- Assumes nothing.
-use Prim.Native.Nat.{◌-◌}
 use Rattle.frame_digits.specs.Print.{wording_begins, wording_on, wording_ends}
 use Rattle.frame_digits.proofs.print.put_words.Goals as goal
 

@@ -1,6 +1,5 @@
 -- `all_digits` meets its contract. The invariant: all of the text are digits if all that is left are.
 -- Assumes nothing.
-use Prim.Native.Nat.{◌-◌}
 use mathlib.Core.Path.{sym, ◌∙◌}
 use native.Mathlib.Omega.{arith}
 use Rattle.frame_rules.specs.Digits.{is_digit}

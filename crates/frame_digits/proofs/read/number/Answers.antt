@@ -1,6 +1,5 @@
 -- `number` meets its contract. The invariant is `Reading`; the measure, how many digits are left.
 -- Assumes nothing.
-use Prim.Native.Nat.{◌-◌}
 use native.Mathlib.Omega.{arith}
 use Rattle.frame_digits.specs.Read.{reading_begins, reading_on, reading_ends, number_fits, digit_low}
 use Rattle.frame_digits.proofs.read.number.Goals as goal

@@ -1,6 +1,5 @@
 -- `store_words` meets its contract. The invariant is `Storing`; the measure, how many words are left.
 -- Assumes nothing.
-use Prim.Native.Nat.{◌-◌}
 use mathlib.Core.Path.{sym, ◌∙◌}
 use native.Mathlib.Omega.{arith}
 use lib.ListN.{length-set}

@@ -1,6 +1,5 @@
 -- `all_at_rest` meets its contract. The invariant: the tasks from i on are all at rest exactly when all are.
 -- Assumes nothing.
-use Prim.Native.Nat.{◌-◌}
 use mathlib.Core.Path.{refl, sym, ◌∙◌}
 use native.Mathlib.Omega.{arith}
 use Rattle.std.proofs.Common.{◌≢◌, ⊎_elim, get_or}

@@ -1,7 +1,6 @@
 -- `round` meets its contract. The invariant is `Turning`; the measure, how many tasks have not had their turn.
 -- Assumes nothing.
 use Rattle.std.proofs.Common.{rules}
-use Prim.Native.Nat.{◌-◌}
 use Rattle.frame_rounds.specs.Desk.{turning_begins, turning_on, turning_ends}
 use Rattle.frame_rounds.proofs.round.round.Goals as goal
 

@@ -6,7 +6,6 @@ use mathlib.Core.Path.{◌≡◌, sym, ◌∙◌, ap}
 use native.Mathlib.Omega.{arith}
 use Rattle.rules.specs.Lists.{bit_of}
 use Rattle.rules.specs.Bytes.{words_of}
-use Rattle.rules.specs.Table.{at}
 use Rattle.theory.specs.Dealt.{is_occupied}
 use Rattle.table_cluster.specs.Ends.{left_end, counted_few, some_before, left_begins, left_on, left_ends}
 use Rattle.table_cluster.proofs.gaps.left_end.Goals as goal

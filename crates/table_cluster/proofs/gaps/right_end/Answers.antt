@@ -1,12 +1,12 @@
 -- `right_end` meets its contract. The invariant: the word is that of the place that is reached, from where the
 -- right gap is the home's, and the bits of the cluster's words before it are counted.
 -- Assumes nothing.
-use Prim.Native.Nat.{◌+◌, ◌-◌}
+use Prim.Native.Nat.{◌+◌}
 use mathlib.Core.Path.{sym, ◌∙◌, ap}
 use native.Mathlib.Omega.{arith}
 use Rattle.rules.specs.Lists.{bit_of}
 use Rattle.rules.specs.Bytes.{words_of}
-use Rattle.rules.specs.Table.{at, occupied_places}
+use Rattle.rules.specs.Table.{occupied_places}
 use Rattle.table_cluster.specs.Ends.{Rightward, counted_few, right_from, right_begins, right_on, right_ends}
 use Rattle.table_cluster.proofs.gaps.right_end.Goals as goal
 use Rattle.table_cluster.proofs.gaps.right_end.Goals.{After-bit_of-changes}

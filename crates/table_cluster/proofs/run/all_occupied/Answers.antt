@@ -1,6 +1,5 @@
 -- `all_occupied` meets its contract. The invariant: what is left is all occupied if the whole is.
 -- Assumes nothing.
-use Prim.Native.Nat.{◌-◌}
 use mathlib.Core.Path.{refl, sym, ◌∙◌, ap}
 use native.Mathlib.Omega.{arith}
 use Rattle.rules.specs.Lists.{all}

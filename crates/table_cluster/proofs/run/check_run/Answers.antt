@@ -1,10 +1,8 @@
 -- `check_run` meets its contract. The invariant: what is known of the words behind and the words to come make the
 -- whole pass.
 -- Assumes nothing.
-use Prim.Native.Nat.{◌-◌}
 use mathlib.Core.Path.{refl, sym, ◌∙◌}
 use native.Mathlib.Omega.{arith}
-use Rattle.rules.specs.Table.{at}
 use Rattle.table_cluster.specs.Check.{over_small, check_passed, check_ended, check_told}
 use Rattle.table_cluster.proofs.run.check_run.Goals as goal
 

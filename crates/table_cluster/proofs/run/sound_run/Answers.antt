@@ -1,7 +1,6 @@
 -- `sound_run` meets its contract. The invariant: what is left passes, after the last word and with the bits counted,
 -- if the whole run does after a word that ends a group.
 -- Assumes nothing.
-use Prim.Native.Nat.{◌-◌}
 use mathlib.Core.Path.{◌≡◌, refl, sym, ◌∙◌, ap}
 use mathlib.Core.Bool.{Bool, true, false, ◌&&◌}
 use native.Mathlib.Omega.{arith}

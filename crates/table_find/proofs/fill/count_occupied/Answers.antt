@@ -1,6 +1,5 @@
 -- `count_occupied` meets its contract. The invariant: what is counted and what is to come make the whole.
 -- Assumes nothing.
-use Prim.Native.Nat.{◌-◌}
 use mathlib.Core.Path.{sym, ◌∙◌, ap}
 use native.Mathlib.Omega.{arith}
 use Rattle.rules.specs.Lists.{bit_of}

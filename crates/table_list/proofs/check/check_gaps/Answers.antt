@@ -1,6 +1,5 @@
 -- `check_gaps` meets its contract. The invariant: what is counted behind and the words to come make the whole pass.
 -- Assumes nothing.
-use Prim.Native.Nat.{◌-◌}
 use mathlib.Core.Path.{refl, sym, ◌∙◌, ap}
 use native.Mathlib.Omega.{arith}
 use Rattle.rules.specs.Lists.{bit_of}

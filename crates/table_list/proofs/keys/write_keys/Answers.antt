@@ -1,6 +1,6 @@
 -- `write_keys` meets its contract. The invariant is `Writing`; the measure, how many keys are left.
 -- Assumes nothing.
-use Prim.Native.Nat.{◌-◌, ◌≤◌}
+use Prim.Native.Nat.{◌≤◌}
 use mathlib.Core.Path.{ap}
 use native.Mathlib.Omega.{arith}
 use lib.ListN.{length}

@@ -1,6 +1,5 @@
 -- `shift_left` meets its contract: the hand goes right, and each turn is a step of `shift_on`.
 -- Assumes nothing.
-use Prim.Native.Nat.{◌-◌}
 use Rattle.std.proofs.Common.{rules}
 use native.Mathlib.Omega.{arith}
 use Rattle.theory.specs.Motion.{Heads, rightward}

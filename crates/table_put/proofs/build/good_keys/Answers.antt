@@ -1,7 +1,6 @@
 -- `good_keys` meets its contract. The invariant: the keys so far, laid over one another, and the keys to come tell the
 -- whole.
 -- Assumes nothing.
-use Prim.Native.Nat.{◌-◌}
 use mathlib.Core.Path.{sym, ◌∙◌, ap}
 use mathlib.Core.Bool.{Bool, ◌&&◌}
 use native.Mathlib.Omega.{arith}

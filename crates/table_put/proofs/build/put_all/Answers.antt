@@ -1,6 +1,5 @@
 -- `put_all` meets its contract. The invariant: filling on with the keys to come is filling with all from the start.
 -- Assumes nothing.
-use Prim.Native.Nat.{◌-◌}
 use mathlib.Core.Path.{refl, ◌∙◌}
 use native.Mathlib.Omega.{arith}
 use lib.ListN.{get_or}

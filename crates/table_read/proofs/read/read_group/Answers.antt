@@ -1,7 +1,7 @@
 -- `read_group` meets its contract. The invariant: what was seen and the rest of the group make the whole, and the
 -- group's end is to come.
 -- Assumes nothing.
-use Prim.Native.Nat.{ℕ, ◌+◌, ◌-◌}
+use Prim.Native.Nat.{ℕ, ◌+◌}
 use mathlib.Core.Path.{refl, sym, ◌∙◌, ap}
 use mathlib.Core.Bool.{true, false}
 use native.Mathlib.Nat.{zero-add}

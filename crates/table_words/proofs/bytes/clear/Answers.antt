@@ -1,6 +1,5 @@
 -- `clear` meets its contract. The invariant: the bytes passed are 0.
 -- Assumes nothing.
-use Prim.Native.Nat.{◌-◌}
 use mathlib.Core.Path.{refl}
 use native.Mathlib.Omega.{arith}
 use Rattle.table_words.specs.Clear.{clear_more, clear_ends}

@@ -1,6 +1,6 @@
 -- `give_to` meets its contract by the phase.
 -- Assumes nothing.
-use Rattle.std.proofs.Common.{arith, ℕ, ◌≡◌, ◌≢◌, ◌<◌, ◌≤◌, ◌⊎◌, inl, inr, ⊎_elim}
+use Rattle.std.proofs.Common.{arith, ◌≡◌, ◌≢◌, ◌<◌, ◌≤◌, ◌⊎◌, inl, inr, ⊎_elim}
 use Rattle.rules.specs.Give.{give_to}
 use Rattle.theory.specs.Record.{is_busy, idle, done_or_beyond}
 use Rattle.task_step.proofs.give.give_to.Goals as goal
@@ -19,9 +19,9 @@ unfolding give_to
 returns-in-0 c =
     let t = c.args.t in
     let still : (t.phase ≡ 0) ⊎ (13 ≤ t.phase) =
-        elim c.in-0-1.branch [
-          in-0-1 w ↦ inl (grind arith)
-        | in_default+else-phase-lt13 w ↦ inr (grind arith)
-        ] in
+    elim c.in-0-1.branch [
+      | in-0-1 w ↦ inl (grind arith)
+      | in_default+else-phase-lt13 w ↦ inr (grind arith)
+    ] in
     rw (⊎_elim (idle t) (done_or_beyond t) still)
     (rw c.given.ensures)

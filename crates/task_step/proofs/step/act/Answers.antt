@@ -1,6 +1,5 @@
 -- `act` meets its contract: what each phase does, by number. No record with another phase fits.
 -- Assumes nothing.
-use Prim.Native.Nat.{◌≤◌}
 use native.Mathlib.Omega.{arith}
 use Rattle.std.proofs.Common.{◌≢◌, ⊎_elim}
 use mathlib.Core.Path.{refl, ◌∙◌}
