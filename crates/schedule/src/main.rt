@@ -4,23 +4,22 @@
 
 mod pieces;
 
-ghost use Rattle.std.specs.Prelude.{◌≡◌, ◌≤◌, length, IfOk};
+ghost use Rattle.std.specs.Prelude.{◌≡◌, ◌≤◌, length};
 ghost use Rattle.schedule.specs.Held.{Held};
 
-use crate::pieces::{State, close, turn};
-use std::io;
+use crate::pieces::{State, close, turn, written};
 use test_schedule::run::{begun, end_of};
 
-// Nothing says that the input ends, so the turns are counted to a number that no run uses up.
+// Nothing says that the input ends, so the turns are counted down from a number that no run uses up.
 fn all_pieces(
     rt: &HostRuntime,
     piece: &mut [u8],
     line: &mut [u8],
     table: &mut [u8],
     out: &mut [u8],
-) -> io::Result<State>
+) -> State
     requires { length out.old ≡ 65577 }
-    ensures { IfOk result (λ s. Held s line.new) }
+    ensures { Held result line.new }
 {
     let mut s = State {
         run: begun(),
@@ -30,56 +29,45 @@ fn all_pieces(
     };
     let mut turns = u64::MAX;
     while turns > 0 {
-        s = turn(rt, s, piece, line, table, out)?;
+        s = turn(rt, s, piece, line, table, out);
         if s.more {
             turns -= 1;
         } else {
-            return Ok(s);
+            return s;
         }
     }
-    Ok(s)
+    s
 }
 
 // The last line may lack its line feed.
-fn last_line(
-    rt: &impl Print,
-    s: State,
-    line: &[u8],
-    table: &mut [u8],
-    out: &mut [u8],
-) -> io::Result<State>
+fn last_line(rt: &impl Print, s: State, line: &[u8], table: &mut [u8], out: &mut [u8]) -> State
     requires { (Held s line.now) × (length out.old ≡ 65577) }
-    ensures { IfOk result (λ t. t.filled ≤ 65536) }
+    ensures { result.filled ≤ 65536 }
 {
     if s.held > 0 {
         return close(rt, s, line, table, out);
     }
-    Ok(s)
+    s
 }
 
 // What is printed last is laid where lines were held.
-fn finish(
-    rt: &impl Print,
-    s: State,
-    line: &mut [u8],
-    table: &mut [u8],
-    out: &mut [u8],
-) -> io::Result<()>
+fn finish(rt: &impl Print, s: State, line: &mut [u8], table: &mut [u8], out: &mut [u8])
     requires { (Held s line.old) × ((length out.old ≡ 65577) × (41 ≤ length line.old)) }
 {
-    let t = last_line(rt, s, line, table, out)?;
+    let t = last_line(rt, s, line, table, out);
     let filled = t.filled;
     let run = t.run;
-    rt.write_all(&out[0..filled])?;
-    let n = end_of(run, table, line);
-    rt.write_all(&line[0..n])
+    if written(rt, &out[0..filled]) {
+        let n = end_of(run, table, line);
+        written(rt, &line[0..n]);
+    }
 }
 
-fn main(rt: HostRuntime) -> io::Result<()> {
+fn main(rt: HostRuntime) {
     let mut piece = [0u8; 65536];
     let mut line = [0u8; 65545];
     let mut table = [0u8; 32772];
     let mut out = [0u8; 65577];
-    let s = all_pieces(&rt, &mut piece, &mut line, &mut table, &mut out)?;
-    finish(&rt, s, &mut line, &mut table, &mut out)
+    let s = all_pieces(&rt, &mut piece, &mut line, &mut table, &mut out);
+    finish(&rt, s, &mut line, &mut table, &mut out);
 }

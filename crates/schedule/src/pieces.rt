@@ -1,11 +1,10 @@
 // The input in pieces, one read each. Lines are cut at their line feeds; a line begun is held until its end is read.
 // What is printed is gathered, and written once a piece or when there is no room for one more line.
-ghost use Rattle.std.specs.Prelude.{◌≡◌, ◌≤◌, length, IfOk};
+ghost use Rattle.std.specs.Prelude.{◌≡◌, ◌≤◌, length};
 ghost use Rattle.schedule.specs.Held.{Held};
 
-use std::io;
 use std::io::Read;
-use test_schedule::run::{Run, is_ended, line_in};
+use test_schedule::run::{Run, ended, is_ended, line_in};
 
 // The run, how many bytes of the line begun are held, how many printed bytes wait, and whether to read on.
 #[derive(Clone, Copy)]
@@ -14,6 +13,11 @@ pub struct State {
     pub held: usize,
     pub filled: usize,
     pub more: bool,
+}
+
+// Whether the bytes were written: a write that fails ends the run, and no error is told.
+pub fn written(rt: &impl Print, bytes: &[u8]) -> bool {
+    rt.write_all(bytes).is_ok()
 }
 
 // Where the line that starts here ends: at its line feed, or at the end of the piece.
@@ -52,37 +56,38 @@ fn hold(text: &[u8], line: &mut [u8], held: usize) -> usize
 }
 
 // No line is held. What waits is written where there is no room for one more line.
-fn after_line(rt: &impl Print, run: Run, filled: usize, out: &[u8]) -> io::Result<State>
+fn after_line(rt: &impl Print, run: Run, filled: usize, out: &[u8]) -> State
     requires { (filled ≤ 65577) × (length out.now ≡ 65577) }
-    ensures { IfOk result (λ s. (s.held ≡ 0) × (s.filled ≤ 65536)) }
+    ensures { (result.held ≡ 0) × (result.filled ≤ 65536) }
 {
     if filled <= 65536 {
-        return Ok(State {
+        return State {
             run: run,
             held: 0,
             filled: filled,
             more: true,
-        });
+        };
     }
-    rt.write_all(&out[0..filled])?;
-    Ok(State {
-        run: run,
+    if written(rt, &out[0..filled]) {
+        return State {
+            run: run,
+            held: 0,
+            filled: 0,
+            more: true,
+        };
+    }
+    State {
+        run: ended(run, 0),
         held: 0,
         filled: 0,
-        more: true,
-    })
+        more: false,
+    }
 }
 
 // The line that is held is whole.
-pub fn close(
-    rt: &impl Print,
-    s: State,
-    line: &[u8],
-    table: &mut [u8],
-    out: &mut [u8],
-) -> io::Result<State>
+pub fn close(rt: &impl Print, s: State, line: &[u8], table: &mut [u8], out: &mut [u8]) -> State
     requires { (Held s line.now) × (length out.old ≡ 65577) }
-    ensures { IfOk result (λ t. (t.held ≡ 0) × (t.filled ≤ 65536)) }
+    ensures { (result.held ≡ 0) × (result.filled ≤ 65536) }
 {
     let held = s.held;
     let filled = s.filled;
@@ -100,9 +105,9 @@ fn part(
     line: &mut [u8],
     table: &mut [u8],
     out: &mut [u8],
-) -> io::Result<State>
+) -> State
     requires { (Held s line.old) × (length out.old ≡ 65577) }
-    ensures { IfOk result (λ t. Held t line.new) }
+    ensures { Held result line.new }
 {
     let before = s.run;
     let t = State {
@@ -114,22 +119,30 @@ fn part(
     if whole {
         return close(rt, t, line, table, out);
     }
-    Ok(t)
+    t
 }
 
 // What waits is written at the end of the piece.
-fn after_piece(rt: &impl Print, s: State, out: &[u8]) -> io::Result<State>
+fn after_piece(rt: &impl Print, s: State, out: &[u8]) -> State
     requires { s.filled ≤ length out.now }
-    ensures { IfOk result (λ t. (t.held ≡ s.held) × (t.filled ≡ 0)) }
+    ensures { (result.held ≡ s.held) × (result.filled ≡ 0) }
 {
     let run = s.run;
-    rt.write_all(&out[0..s.filled])?;
-    Ok(State {
-        run: run,
+    let filled = s.filled;
+    if written(rt, &out[0..filled]) {
+        return State {
+            run: run,
+            held: s.held,
+            filled: 0,
+            more: !is_ended(run),
+        };
+    }
+    State {
+        run: ended(run, 0),
         held: s.held,
         filled: 0,
-        more: !is_ended(run),
-    })
+        more: false,
+    }
 }
 
 // Every line that ends in the piece; the rest is held.
@@ -140,26 +153,34 @@ fn feed(
     line: &mut [u8],
     table: &mut [u8],
     out: &mut [u8],
-) -> io::Result<State>
+) -> State
     requires fact_1 { Held s line.old }
     requires fact_2 { length out.old ≡ 65577 }
-    ensures { IfOk result (λ t. Held t line.new) }
+    ensures { Held result line.new }
 {
     let mut t = s;
     let mut i = 0;
     while i < piece.len() {
         let e = line_end(piece, i);
-        t = part(rt, t, &piece[i..e], e < piece.len(), line, table, out)?;
+        t = part(rt, t, &piece[i..e], e < piece.len(), line, table, out);
         i = e + 1;
     }
     after_piece(rt, t, out)
 }
 
-// No more is read: the input has ended.
-fn no_more(s: State) -> State
+// No more is read: the input has ended, or a read has failed.
+fn no_more(s: State, failed: bool) -> State
     ensures { (result.held ≡ s.held) × (result.filled ≡ s.filled) }
 {
     let run = s.run;
+    if failed {
+        return State {
+            run: ended(run, 0),
+            held: s.held,
+            filled: s.filled,
+            more: false,
+        };
+    }
     State {
         run: run,
         held: s.held,
@@ -168,7 +189,7 @@ fn no_more(s: State) -> State
     }
 }
 
-// One read, and the lines in what came. A read or a write that fails ends the program with its error.
+// One read, and the lines in what came.
 pub fn turn(
     rt: &HostRuntime,
     s: State,
@@ -176,13 +197,18 @@ pub fn turn(
     line: &mut [u8],
     table: &mut [u8],
     out: &mut [u8],
-) -> io::Result<State>
+) -> State
     requires { (Held s line.old) × (length out.old ≡ 65577) }
-    ensures { IfOk result (λ t. Held t line.new) }
+    ensures { Held result line.new }
 {
-    let n = rt.stdin().read(piece)?;
-    if n == 0 {
-        return Ok(no_more(s));
+    match rt.stdin().read(piece) {
+        Ok(n) => {
+            if n == 0 {
+                no_more(s, false)
+            } else {
+                feed(rt, s, &piece[0..n], line, table, out)
+            }
+        }
+        Err(_) => no_more(s, true),
     }
-    feed(rt, s, &piece[0..n], line, table, out)
 }
