@@ -1,5 +1,5 @@
 /* A camera that writes each tile once, and remembers which ones in a Woollydusk table: an example to start from.
- * Plain C99, no dynamic memory. Link it with libfirmware.a, which `rt staticlib firmware` makes. */
+ * Plain C99, no dynamic memory. Link it with libfirmware.a, which `rt lib` makes in crates/firmware. */
 #include "woollydusk.h"
 
 /* The camera's console. A camera with <stdio.h> includes that in its place. */
