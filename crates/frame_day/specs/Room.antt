@@ -26,8 +26,8 @@ use Rattle.demands.specs.Proof3.{listed_split, held_key, all_within, all_both, a
 use Rattle.frame_rules.specs.declared.First.{First}
 use Rattle.frame_rules.specs.Rounds.{Floor, all_answered}
 use Rattle.together.specs.Machine.{Said, times_inserted}
-use Rattle.together.specs.Demand3 as demand_3
-use Rattle.together.specs.Demand3.{was_inserted}
+use Rattle.together.proofs.Demand3 as demand_3
+use Rattle.together.proofs.Demand3.{was_inserted}
 use Rattle.frame_day.specs.Terms.{paired, keys_in, inserted_in, Follows}
 use Rattle.frame_day.specs.Counting.{paired_parts}
 use Rattle.frame_day.specs.Moments.{idle_tasks}

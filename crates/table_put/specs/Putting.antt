@@ -26,7 +26,7 @@ use Rattle.theory.specs.Gaps as gaps
 use Rattle.theory.specs.Gaps.{picks_left, picks_right, picks_neither, picked_only}
 use Rattle.theory.specs.Places.{occupied_at, gap_entries}
 use Rattle.theory.specs.Motion.{fill_at, finish}
-use Rattle.theory.specs.Moving.{Addable, smaller_inside, add_moves, room_alone, add_alone}
+use Rattle.theory.proofs.Moving.{Addable, smaller_inside, add_moves, room_alone, add_alone}
 use Rattle.table_read.specs.declared.read.Read.{Read}
 use Rattle.table_read.specs.Read.{read_of}
 use Rattle.table_cluster.specs.Ends.{left_end}

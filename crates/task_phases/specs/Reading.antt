@@ -25,7 +25,7 @@ use Rattle.theory.specs.Dealt.{is_occupied, and_left, and_right}
 use Rattle.theory.specs.Gaps.{TakenFrom, left_gap_is, gap_only}
 use Rattle.theory.specs.Gaps as gaps
 use Rattle.theory.specs.Places.{void_free, occupied_at}
-use Rattle.theory.specs.Moving.{smaller_inside}
+use Rattle.theory.proofs.Moving.{smaller_inside}
 use Rattle.theory.specs.Cut.{between_at}
 use Rattle.table_read.specs.declared.read.Read.{Read}
 use Rattle.table_cluster.specs.declared.gaps.End.{End}

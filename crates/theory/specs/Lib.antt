@@ -1,7 +1,7 @@
 -- The theory of sound tables, over the definitions of the crate rules.
 -- Run to Seen: a table as runs between void words, and lists of entries. Gaps, Order, Places, Cut: occupied places
 -- and fills. SoundTable, Pairs: sound tables are tight pairs, laid. Finding to Keys: find, put, build and the list.
--- Motion to Moving: fill, moves and mark give the laid table. Record: a task's record at rest or busy.
+-- Motion to Side, and proofs/: fill, moves and mark give the laid table. Record: a task's record at rest or busy.
 pub mod Run
 pub mod Dealt
 pub mod Locks
@@ -22,12 +22,8 @@ pub mod Putting
 pub mod Building
 pub mod Keys
 pub mod Motion
-pub mod Region
 pub mod Payload
 pub mod Mark
 pub mod Laid
 pub mod Side
-pub mod Enlarge
-pub mod Insertion
-pub mod Moving
 pub mod Record

@@ -1,13 +1,13 @@
 -- The one idea of the theory: a sound unlocked table is its occupied places and its entries. `Tight` says which pairs
 -- are those of tables; A (`table_tight`, `table_lay`): a table has a tight pair, and laying the pair gives the table.
--- B (`lay_table`, `lay_occupied`): laying a tight pair gives a table with that pair.
+-- B (`lay_occupied`; proofs/LayTable): laying a tight pair gives a table with that pair.
 -- Assumes nothing.
 use Rattle.std.specs.Prelude.{ℕ, zero, suc, ◌+◌, ◌*◌, ◌≤◌, ◌<◌, ◌≡◌, refl, Bool, true, false, ◌||◌, List, [], ◌∷◌, ◌++◌, map, length, replicate}
 use Rattle.std.proofs.Common.{sym, ap, ap₂, ◌∙◌, subst, true≢false, arith, le_refl, le_trans, le_of_eq, length-append}
 use Rattle.std.proofs.Math.Bool.{or-false}
 use Rattle.std.proofs.lemmas.List.{map-append, length-replicate}
 use Rattle.rules.specs.Lists.{count, all, any}
-use Rattle.rules.specs.Word.{Word, zero_word, is_void}
+use Rattle.rules.specs.Word.{Word, zero_word}
 use Rattle.rules.specs.Entry.{Entry}
 use Rattle.rules.specs.Table.{occupied_places, locked}
 use Rattle.rules.specs.Lay.{has_home, lay}
@@ -71,10 +71,10 @@ right_tight {d} {p} (right_more run g v xs ys r void rest e f) =
     f
 
 -- homes of a part, where they are those of the whole from a place on
-abbrev HomesFrom : List Entry → ℕ → List Entry → Type 0
+abbrev pub HomesFrom : List Entry → ℕ → List Entry → Type 0
 HomesFrom whole p es = (x : ℕ) → p ≤ x → has_home whole x ≡ has_home es x
 
-homes_here :
+pub homes_here :
     {d c c' p : ℕ} (whole xs ys : List Entry) →
     d ≤ 4096 →
     Asc d c' (suc c * 4096) ys →
@@ -85,7 +85,7 @@ homes_here whole xs ys s down same x low high =
     ∙ ap (λ (b : Bool). has_home xs x || b) (has_home_left x s down (omega arith))
     ∙ or-false (has_home xs x)
 
-homes_after :
+pub homes_after :
     {d c b p : ℕ} (whole xs ys : List Entry) →
     Asc d c b xs → p ≤ suc c → HomesFrom whole p (xs ++ ys) → HomesFrom whole (suc c) ys
 homes_after whole xs ys up le same x low =
@@ -162,7 +162,7 @@ lay_length whole p (false ∷ os) es = ap suc (lay_length whole (suc p) os es)
 lay_length whole p (true ∷ os) [] = ap suc (lay_length whole (suc p) os [])
 lay_length whole p (true ∷ os) (e ∷ es) = ap suc (lay_length whole (suc p) os es)
 
-tight_asc :
+pub tight_asc :
     {d p : ℕ} {os : List Bool} {es : List Entry} → d ≤ 4096 → TightFrom d p os es → Asc d (p + length os) (p * 4096) es
 tight_asc {d} {p} {os} s (tight_end e f) = subst (Asc d (p + length os) (p * 4096)) (sym f) none
 tight_asc {d} {p} {os} s (tight_more rest xs ys up more e f) =
@@ -197,51 +197,6 @@ lay_run_lem {d} {p} whole xs up here =
   where
     long : length (lay whole p (replicate (length xs) true) xs) ≡ length xs
     long = lay_length whole p (replicate (length xs) true) xs ∙ length-replicate (length xs) true
-
-lay_right :
-    {d p : ℕ} {os : List Bool} {es : List Entry} (whole : List Entry) →
-    d ≤ 4096 → TightFrom d p os es → HomesFrom whole p es → Right d p (lay whole p os es) es
-unfolding lay is_void
-lay_right {p = p} {es = es} whole s (tight_end e f) same = right_end (ap (λ (os : List Bool). lay whole p os es) e) f
-lay_right {d} {p} {os} {es} whole s (tight_more rest xs ys up more e f) same =
-    right_more
-    (lay whole p (replicate (length xs) true) xs)
-    zero_word
-    (lay whole (suc (p + length xs)) rest ys)
-    xs
-    ys
-    r
-    refl
-    (subst
-    (λ (n : ℕ). Right d (suc (p + n)) (lay whole (suc (p + length xs)) rest ys) ys)
-    r.size
-    (lay_right whole s more (homes_after whole xs ys up (omega arith) together)))
-    (ap₂ (lay whole p) e f
-    ∙ lay_append
-    whole
-    p
-    (p + length xs)
-    (false ∷ rest)
-    s
-    up
-    (asc_weaken (omega arith) (le_refl _) (tight_asc s more))
-    refl)
-    f
-  where
-    together : HomesFrom whole p (xs ++ ys)
-    together x low = same x low ∙ ap (λ (fs : List Entry). has_home fs x) f
-
-    r : Run d p (lay whole p (replicate (length xs) true) xs) xs
-    r =
-        lay_run_lem
-        whole
-        xs
-        up
-        (λ i lt. homes_here whole xs ys s (tight_asc s more) together (p + i) (omega arith) (omega arith))
-
-pub lay_table : {d : ℕ} {os : List Bool} {es : List Entry} → d ≤ 4096 → Tight d os es → Table d (lay es 0 os es) es
-unfolding lay is_void
-lay_table {es = es} s (tight from) = table refl (lay_right es s from (λ x low. refl))
 
 -- as many entries as occupied places
 taken_span : (n : ℕ) (os : List Bool) → taken (replicate n true ++ (false ∷ os)) ≡ n + taken os

@@ -1,13 +1,12 @@
 -- Payloads on places: a word is a payload (remainder and change) on a place's own bits (occupied, virgin, lock).
 -- `loaded` puts payloads on places, `wedge` puts one thing into a list; moves carry one payload past the others.
 -- Assumes nothing.
-use Rattle.std.specs.Prelude.{ℕ, zero, suc, ◌-◌, ◌≤◌, ◌<◌, ◌≡◌, refl, List, [], ◌∷◌, ◌++◌, map, length}
+use Rattle.std.specs.Prelude.{ℕ, zero, suc, ◌≤◌, ◌≡◌, refl, List, [], ◌∷◌, ◌++◌, map, length}
 use Rattle.std.proofs.Math.Nat.{suc_inj}
-use Rattle.std.proofs.Common.{suc-ne-zero, not-suc-le-zero, le_of_suc-le-suc, add-one, arith, sym, ap, ◌∙◌}
+use Rattle.std.proofs.Common.{suc-ne-zero, not-suc-le-zero, le_of_suc-le-suc, sym, ap}
 use Rattle.rules.specs.Word.{Word, with_payload, filled_with}
 use Rattle.rules.specs.Phase.{exchange}
-use Rattle.theory.specs.Motion.{fill_at, toward, moves, distance, Heads, rightward, leftward, heads, toward_lt}
-use Rattle.theory.specs.Motion.{distance_toward, distance_none, distance_some}
+use Rattle.theory.specs.Motion.{fill_at}
 
 -- the payloads of some words on the places of others
 abbrev pub loaded : List Word → List Word → List Word
@@ -56,21 +55,21 @@ fill_at_wedge x (suc i) w [] h = absurd (not-suc-le-zero h)
 fill_at_wedge x (suc i) w (v ∷ ws) h = ap (λ (r : List Word). v ∷ r) (fill_at_wedge x i w ws (le_of_suc-le-suc h))
 
 -- two indices side by side, either way round
-data Adjacent : ℕ → ℕ → Type 0 where
+pub data Adjacent : ℕ → ℕ → Type 0 where
   right : Adjacent zero (suc zero)
   left : Adjacent (suc zero) zero
   next : {i j : ℕ} → Adjacent i j → Adjacent (suc i) (suc j)
 
-adjacent_right : (i : ℕ) → Adjacent i (suc i)
+pub adjacent_right : (i : ℕ) → Adjacent i (suc i)
 adjacent_right zero = right
 adjacent_right (suc i) = next (adjacent_right i)
 
-adjacent_left : (i : ℕ) → Adjacent (suc i) i
+pub adjacent_left : (i : ℕ) → Adjacent (suc i) i
 adjacent_left zero = left
 adjacent_left (suc i) = next (adjacent_left i)
 
 -- an exchange with a neighbour carries the wedged payload there
-exchange_wedge :
+pub exchange_wedge :
     {i j : ℕ} → Adjacent i j →
     (k : Word) (ls ws : List Word) →
     i ≤ length ls → j ≤ length ls → length ws ≡ suc (length ls) →
@@ -87,27 +86,3 @@ exchange_wedge left k (l ∷ ls) (w ∷ v ∷ ws) p q e = refl
 exchange_wedge (next b) k (l ∷ ls) (w ∷ ws) p q e =
     ap (λ (r : List Word). with_payload l w ∷ r)
     (exchange_wedge b k ls ws (le_of_suc-le-suc p) (le_of_suc-le-suc q) (suc_inj e))
-
-adjacent_toward : (hand goal : ℕ) → (hand ≡ goal → ⊥) → Adjacent hand (toward hand goal)
-adjacent_toward hand goal apart = go hand (heads hand goal apart)
-  where
-    go : (h : ℕ) {q : ℕ} → Heads h goal q → Adjacent h q
-    go h (rightward l) = rw add-one (adjacent_right h)
-    go zero (leftward l) = absurd (not-suc-le-zero l)
-    go (suc h) (leftward l) = rw (let e : suc h - 1 ≡ h = omega arith in e) (adjacent_left h)
-
--- the moves to the goal carry the wedged payload there, to either side
-pub moves_wedge :
-    (n hand goal : ℕ) (k : Word) (ls ws : List Word) →
-    distance hand goal ≡ n → hand < suc (length ls) → goal < suc (length ls) → length ws ≡ suc (length ls) →
-    moves n (loaded (wedge hand k ls) ws) hand goal ≡ loaded (wedge goal k ls) ws
-unfolding moves
-moves_wedge zero hand goal k ls ws d p q e =
-    ap (λ (i : ℕ). loaded (wedge i k ls) ws) (distance_none hand goal d)
-moves_wedge (suc n) hand goal k ls ws d p q e =
-    let apart = distance_some hand goal n d in
-    let r = toward_lt hand goal (suc (length ls)) apart p q in
-    ap
-    (λ (vs : List Word). moves n vs (toward hand goal) goal)
-    (exchange_wedge (adjacent_toward hand goal apart) k ls ws (le_of_suc-le-suc p) (le_of_suc-le-suc r) e)
-    ∙ moves_wedge n (toward hand goal) goal k ls ws (suc_inj (sym (distance_toward hand goal apart) ∙ d)) r q e

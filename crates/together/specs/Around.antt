@@ -22,7 +22,7 @@ use Rattle.theory.specs.Gaps.{HomePlace, left_gap_is, right_gap_is, gap_only}
 use Rattle.theory.specs.Places.{occupied_at}
 use Rattle.theory.specs.Cut.{between_occupied}
 use Rattle.theory.specs.Finding.{Surroundings, surroundings}
-use Rattle.theory.specs.Moving.{sound_around_lem}
+use Rattle.theory.proofs.Moving.{sound_around_lem}
 use Rattle.together.specs.Frames.{occupied_same}
 use Rattle.together.specs.Invariant.{Looked, Inv}
 use Rattle.together.specs.Stable.{between_same}

@@ -35,11 +35,11 @@ use Rattle.theory.specs.Gaps.{Side, HomePlace, other, room_left, chosen_only}
 use Rattle.theory.specs.Cut.{end, from}
 use Rattle.theory.specs.Places.{occupied_at, gap_entries}
 use Rattle.theory.specs.Motion.{fill_at, finish}
-use Rattle.theory.specs.Region.{fill_at_occupied, fill_at_locks}
+use Rattle.theory.proofs.Region.{fill_at_occupied, fill_at_locks}
 use Rattle.theory.specs.Pairs.{unlocked_same}
 use Rattle.theory.specs.Finding.{Surroundings, surroundings, around_free}
 use Rattle.theory.specs.Putting.{Puts, found, inserted, overflow, put_table}
-use Rattle.theory.specs.Moving.{Addable, add_end, begins_from, room_alone, add_alone}
+use Rattle.theory.proofs.Moving.{Addable, add_end, begins_from, room_alone, add_alone}
 use Rattle.theory.specs.Building.{State, after_put, added_state, place≢full}
 use Rattle.together.specs.Frames.{Within, at_set, at_other, finish_before, finish_after, locks_at, occupied_same}
 use Rattle.together.specs.Invariant.{Occupied, Looked, Fills, MayFill, Moving, Owns, by_left, by_right, Reserves}

@@ -26,7 +26,7 @@ use Rattle.theory.specs.Gaps as gaps
 use Rattle.theory.specs.Gaps.{Side, other}
 use Rattle.theory.specs.Cut.{end, from, up_to}
 use Rattle.theory.specs.Motion.{toward, finish, Heads, rightward, leftward, heads, finish_move, finish_mark}
-use Rattle.theory.specs.Region.{finish_locks, finish_occupied, length_locks}
+use Rattle.theory.proofs.Region.{finish_locks, finish_occupied, length_locks}
 use Rattle.demands.specs.Tables.{table_small}
 use Rattle.together.specs.Frames.{Within, at_set, at_other, finish_before, finish_after, locks_at, occupied_same}
 use Rattle.together.specs.Frames.{occupied_by}

@@ -15,7 +15,7 @@ use Rattle.theory.specs.Dealt.{or_left, or_right}
 use Rattle.theory.specs.Gaps as gaps
 use Rattle.theory.specs.Gaps.{Side, HomePlace}
 use Rattle.theory.specs.Cut.{end, from, up_to}
-use Rattle.theory.specs.Moving.{smaller_inside, last_follows}
+use Rattle.theory.proofs.Moving.{smaller_inside, last_follows}
 use Rattle.together.specs.Invariant.{Looked, Fills, MayFill, Moving, InPhase, rests, at_home, looks_left}
 use Rattle.together.specs.Invariant.{looks_right, owns_left, owns_both, has_read, moving, marking, frees_left}
 use Rattle.together.specs.Invariant.{frees_right}

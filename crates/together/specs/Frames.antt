@@ -9,7 +9,7 @@ use Rattle.rules.specs.Word.{Word, zero_word}
 use Rattle.rules.specs.Table.{at, occupied_places}
 use Rattle.theory.specs.Places.{occupied_at, occupied_length}
 use Rattle.theory.specs.Motion.{finish}
-use Rattle.theory.specs.Region.{locks, length_locks, finish_locks, finish_within}
+use Rattle.theory.proofs.Region.{locks, length_locks, finish_locks, finish_within}
 
 -- ---- words at a place
 pub at_set : (ws : List Word) (p : ℕ) (w : Word) → p < length ws → at (set ws p w) p ≡ w

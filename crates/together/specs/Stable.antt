@@ -23,7 +23,7 @@ use Rattle.theory.specs.Gaps as gaps
 use Rattle.theory.specs.Gaps.{Side, other}
 use Rattle.theory.specs.Cut.{end, from, up_to, between_at}
 use Rattle.theory.specs.Motion.{finish}
-use Rattle.theory.specs.Region.{finish_unlock}
+use Rattle.theory.proofs.Region.{finish_unlock}
 use Rattle.together.specs.Frames.{Within, finish_agree}
 use Rattle.together.specs.Invariant.{Occupied, LookedLeft, Looked, Fills, FilledEnd, MayFill, Moving, Owns}
 use Rattle.together.specs.Invariant.{by_left, by_right, Reserves, Ends, ends_found, ends_full, ends_inserted}

@@ -10,14 +10,14 @@ use Rattle.rules.specs.Put.{lay_run}
 use Rattle.theory.specs.Run.{Run}
 use Rattle.theory.specs.Insert.{insert_asc, insert_length, asc_weaken}
 use Rattle.theory.specs.Motion.{fill_at, finish}
-use Rattle.theory.specs.Region.{locks, length_locks, fill_at_within, finish_within, fill_at_locks, finish_locks}
+use Rattle.theory.proofs.Region.{locks, length_locks, fill_at_within, finish_within, fill_at_locks, finish_locks}
 use Rattle.theory.specs.Payload.{length_wedge}
 use Rattle.theory.specs.Mark.{goes, smaller_le, insert_wedge}
 use Rattle.theory.specs.Laid.{closes_above}
 use Rattle.theory.specs.Gaps.{Side}
 use Rattle.theory.specs.Side.{beside, begins, stands, index, stands_index, index_le, begins_ge, begins_le}
 use Rattle.theory.specs.Side.{beside_wedge}
-use Rattle.theory.specs.Enlarge.{enlarge}
+use Rattle.theory.proofs.Enlarge.{enlarge}
 
 -- what the read step has found: the filled word void, e's home inside the run, and e not among the run's entries
 pub record Absent (side : Side) (d a : ℕ) (run : List Word) (g : Word) (e : Entry) (es : List Entry) : Type 0 where

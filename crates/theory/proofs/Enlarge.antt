@@ -16,8 +16,9 @@ use Rattle.theory.specs.Every.{All, all_map}
 use Rattle.theory.specs.Insert.{asc_all}
 use Rattle.theory.specs.Locks.{void_unlock}
 use Rattle.theory.specs.Motion.{fill_at, moves, distance, finish}
-use Rattle.theory.specs.Region.{fill_at_unlock, finish_unlock}
-use Rattle.theory.specs.Payload.{loaded, wedge, map_wedge, wedge_loaded, fill_at_wedge, length_wedge, moves_wedge}
+use Rattle.theory.proofs.Region.{fill_at_unlock, finish_unlock}
+use Rattle.theory.specs.Payload.{loaded, wedge, map_wedge, wedge_loaded, fill_at_wedge, length_wedge}
+use Rattle.theory.proofs.MovesWedge.{moves_wedge}
 use Rattle.theory.specs.Mark.{Goes}
 use Rattle.theory.specs.Gaps.{Side, left, right}
 use Rattle.theory.specs.Side.{beside, begins, stands, index, index_le, beside_wedge}

@@ -35,9 +35,9 @@ use Rattle.theory.specs.Locks.{locked_append}
 use Rattle.theory.specs.Adding.{or_parts}
 use Rattle.theory.specs.Putting.{spliced, add_from}
 use Rattle.theory.specs.Motion.{fill_at, finish}
-use Rattle.theory.specs.Region.{locks, length_locks}
-use Rattle.theory.specs.Insertion as insertion
-use Rattle.theory.specs.Insertion.{insertion}
+use Rattle.theory.proofs.Region.{locks, length_locks}
+use Rattle.theory.proofs.Insertion as insertion
+use Rattle.theory.proofs.Insertion.{insertion}
 use Rattle.theory.specs.Cut.{CutBeside, cut_beside, CutHome, cut, cut_closed, cut_home, end, from, up_to}
 
 -- ---- between two given places

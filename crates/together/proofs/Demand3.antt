@@ -21,7 +21,7 @@ use Rattle.together.specs.Machine.{Action, Said, World, begin, course, quiet, ti
 use Rattle.together.specs.Machine.{times_inserted}
 use Rattle.together.specs.Fair.{Means, means_full, means_shown, Fair, StepAnswer, answer_of, fair_begin}
 use Rattle.together.specs.Fair.{fair_course, step_answers}
-use Rattle.together.specs.Rest as proof
+use Rattle.together.proofs.Rest as proof
 
 -- whether a key was answered inserted
 unfoldable pub was_inserted : ℕ → List Said → Bool

@@ -1,0 +1,2 @@
+-- The theorems of demand 2.
+pub mod Demand2
