@@ -1,13 +1,8 @@
--- What the lines of the frame program inherit from demand 3. The statements are in Day, their terms in Terms.
--- Counting to Moments: rounds are a course. Line and Room: one line. Zero to Printing: a whole day.
+-- What the lines of the frame program inherit from demand 3. The statements are in proofs/Day, their terms in Terms.
+-- Here are the terms and what counts; in proofs/ are Tally to Moments: rounds are a course; Line to Room: one line;
+-- and the whole day.
 pub mod Terms
 pub mod Counting
-pub mod Tally
-pub mod Moments
-pub mod Line
-pub mod Room
+pub mod Listed
+pub mod Inserted
 pub mod Zero
-pub mod Kept
-pub mod Days
-pub mod Printing
-pub mod Day

@@ -1,4 +1,4 @@
--- Any pieces, fed and finished, write the whole output. The statement is in Pieces.
+-- Any pieces, fed and finished, write the whole output. Pieces has the definitions; the theorem is in proofs/Pieces.
 -- Sizes, Limits: what is printed fits, and no call on the way is refused. Reading to Feeding: one call at a time.
 pub mod Sizes
 pub mod Limits

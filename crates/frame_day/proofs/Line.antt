@@ -26,7 +26,7 @@ use Rattle.together.proofs.Demand3 as demand_3
 use Rattle.together.proofs.Demand3.{was_inserted}
 use Rattle.frame_day.specs.Terms.{paired, answered_so, Follows}
 use Rattle.frame_day.specs.Counting.{count_also, count_same, count_none, none_counted, count_map, paired_parts}
-use Rattle.frame_day.specs.Moments.{idle_tasks}
+use Rattle.frame_day.proofs.Moments.{idle_tasks}
 
 -- ---- lists that have as many of every kind
 abbrev Alike : {A : Type 0} → List A → List A → Type 0

@@ -34,9 +34,11 @@ use Rattle.together.specs.Machine.{Said, times_inserted}
 use Rattle.together.proofs.Demand3.{was_inserted}
 use Rattle.frame_day.specs.Terms.{paired, keys_in, inserted_in, Follows}
 use Rattle.frame_day.specs.Counting.{paired_parts}
-use Rattle.frame_day.specs.Line.{line_plain, line_known, line_lists, line_once, line_new}
-use Rattle.frame_day.specs.Room.{listed_append, distinct_fewer, inserted_listed, line_none_full}
-use Rattle.frame_day.specs.Room.{line_every_listed, line_bytes, inserted_times, inserted_in_lem}
+use Rattle.frame_day.proofs.Line.{line_plain, line_known, line_lists, line_once, line_new}
+use Rattle.frame_day.specs.Listed.{listed_append}
+use Rattle.frame_day.proofs.Fits.{distinct_fewer}
+use Rattle.frame_day.proofs.Room.{inserted_listed, line_none_full}
+use Rattle.frame_day.proofs.Room.{line_every_listed, line_bytes, inserted_times, inserted_in_lem}
 use Rattle.frame_first.specs.Limits.{InLimits, in_limits_lem}
 use Rattle.frame_day.specs.Zero.{zeros_plain, zeros_list, used_zeros}
 

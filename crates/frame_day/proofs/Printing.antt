@@ -16,8 +16,8 @@ use Rattle.together.specs.Machine.{Said}
 use Rattle.frame_day.specs.Terms.{paired, played_history, frame_history, history_at, line_history, shown_answers}
 use Rattle.frame_day.specs.Terms.{day_after, printed_by}
 use Rattle.frame_day.specs.Counting.{paired_parts}
-use Rattle.frame_day.specs.Kept.{Kept}
-use Rattle.frame_day.specs.Days.{course_of, good_keys, day_kept}
+use Rattle.frame_day.proofs.Kept.{Kept}
+use Rattle.frame_day.proofs.Days.{course_of, good_keys, day_kept}
 
 -- ---- the whole output
 pub output_parts :

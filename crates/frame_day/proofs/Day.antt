@@ -26,12 +26,12 @@ use Rattle.together.specs.Machine.{Said, times_inserted}
 use Rattle.together.proofs.Demand3.{was_inserted}
 use Rattle.frame_day.specs.Terms.{paired, keys_in, inserted_in, Follows, day_after, history, line_history, printed_by}
 use Rattle.frame_day.specs.Terms.{shown_answers}
-use Rattle.frame_day.specs.Moments.{rounds_follow, play_follows}
-use Rattle.frame_day.specs.Line as line
-use Rattle.frame_day.specs.Room as room
-use Rattle.frame_day.specs.Kept as kept
-use Rattle.frame_day.specs.Days.{day_kept}
-use Rattle.frame_day.specs.Printing.{output_parts, day_prints}
+use Rattle.frame_day.proofs.Moments.{rounds_follow, play_follows}
+use Rattle.frame_day.proofs.Line as line
+use Rattle.frame_day.proofs.Room as room
+use Rattle.frame_day.proofs.Kept as kept
+use Rattle.frame_day.proofs.Days.{day_kept}
+use Rattle.frame_day.proofs.Printing.{output_parts, day_prints}
 
 -- ---- one line: a sound unlocked table, at most 16 tasks, keys in range
 module _ (f : First) {bytes : List ℕ} (t : PlainTable f.shape bytes) (few : f.tasks ≤ 16) (ks : List ℕ)

@@ -34,7 +34,7 @@ use Rattle.together.specs.Course.{walk}
 use Rattle.together.specs.History.{heard}
 use Rattle.together.specs.Fair.{Fair, fair_begin, fair_course}
 use Rattle.frame_day.specs.Terms.{Follows}
-use Rattle.frame_day.specs.Tally.{Tally, beside_start, took, beside_take, stepped, beside_step}
+use Rattle.frame_day.proofs.Tally.{Tally, beside_start, took, beside_take, stepped, beside_step}
 
 -- ---- courses and what they start from
 course_append :

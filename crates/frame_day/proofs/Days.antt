@@ -18,9 +18,9 @@ use Rattle.frame_rules.specs.Frame.{frame_line, line_at, line_in}
 use Rattle.together.specs.Machine.{Said}
 use Rattle.frame_day.specs.Terms.{paired, Follows, day_after, history, played_history, frame_history, history_at}
 use Rattle.frame_day.specs.Terms.{line_history}
-use Rattle.frame_day.specs.Moments.{play_follows}
+use Rattle.frame_day.proofs.Moments.{play_follows}
 use Rattle.frame_first.specs.Limits.{in_limits_lem}
-use Rattle.frame_day.specs.Kept.{Kept, zeros_kept, kept_line}
+use Rattle.frame_day.proofs.Kept.{Kept, zeros_kept, kept_line}
 
 -- at the first line nothing has happened; of an Ended run nothing is said
 abbrev Fine : Stage → List ℕ → List Said → Type 0

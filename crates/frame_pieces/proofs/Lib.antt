@@ -1,0 +1,2 @@
+-- The theorem: any pieces, fed and finished, write the whole output.
+pub mod Pieces
