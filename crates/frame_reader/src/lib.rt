@@ -1,5 +1,5 @@
-// The line reader: it holds the lent bytes and the point it has reached. A function over the struct is thin and proved
-// by hand, since the work is in `length_from`, over the slice and a number. Callers take `next_line`.
+// The line reader: it holds the lent bytes and the point it has reached. A function over the struct is thin, since the
+// work is in `length_from`, over the slice and a number. Callers take `next_line`.
 #![tactic(auto)]
 
 ghost use Rattle.std.specs.Prelude.{◌≡◌, ◌+◌, drop};

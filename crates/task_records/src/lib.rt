@@ -67,7 +67,7 @@ fn give_at(m: u32, r: u32, key: u32, n: usize, t: Task) -> After
     }
 }
 
-// Gives a key to a task (01, Tasks and their steps). The slice is walked by hand.
+// Gives a key to a task (01, Tasks and their steps).
 pub fn give(m: u32, r: u32, key: u32, tasks: &mut [Task], i: usize) -> Done
     ensures { leaves (done_says result) tasks.new ≡ giving.give (shape_of m r) key tasks.old i }
 {
@@ -107,7 +107,7 @@ fn step_at(m: u32, r: u32, table: &mut [u8], n: usize, t: Task) -> After
     }
 }
 
-// One step of a task (01, Tasks and their steps). The slice of records is walked by hand.
+// One step of a task (01, Tasks and their steps).
 pub fn step(m: u32, r: u32, table: &mut [u8], tasks: &mut [Task], i: usize) -> Done
     ensures { leaves (done_says result) (record { table = table.new; tasks = tasks.new })
         ≡ stepping.step (shape_of m r) table.old tasks.old i }
