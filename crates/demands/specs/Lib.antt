@@ -5,3 +5,4 @@ pub mod Terms
 pub mod Tables
 pub mod Proof2
 pub mod Proof3
+pub mod Demand2

@@ -14,7 +14,7 @@ use Rattle.rules.specs.Build.{build}
 use Rattle.theory.specs.Every.{All}
 use Rattle.theory.specs.Keys.{Ascending, listed}
 use Rattle.demands.specs.Terms.{PlainTable, InKeys, list_of, distinct, put_all}
-use Rattle.demands.proofs.Demand2.{list_ascends_lem}
+use Rattle.demands.specs.Demand2.{list_ascends_lem}
 use Rattle.frame_rules.specs.declared.First.{First}
 use Rattle.frame_rules.specs.declared.Stage.{Stage}
 use Rattle.frame_rules.specs.declared.Stage.TheVariants.{Among}
@@ -23,7 +23,7 @@ use Rattle.frame_rules.specs.Lines.{in_limits, good_line}
 use Rattle.frame_rules.specs.Rounds.{Floor, start, all_answered, rounds, play}
 use Rattle.frame_rules.specs.Frame.{dawn, used_part, printed, line_in, end_at, at_end, output_from}
 use Rattle.together.specs.Machine.{Said, times_inserted}
-use Rattle.together.proofs.Demand3.{was_inserted}
+use Rattle.together.specs.Demand3.{was_inserted}
 use Rattle.frame_day.specs.Terms.{paired, keys_in, inserted_in, Follows, day_after, history, line_history, printed_by}
 use Rattle.frame_day.specs.Terms.{shown_answers}
 use Rattle.frame_day.proofs.Moments.{rounds_follow, play_follows}

@@ -25,19 +25,17 @@ use Rattle.demands.specs.Terms.{PlainTable, InKeys, list_of, distinct, left_by, 
 use Rattle.demands.specs.Tables.{low_of}
 use Rattle.demands.specs.Proof2.{ascending_list}
 use Rattle.demands.specs.Proof3.{all_both, ascending_keys}
-use Rattle.demands.proofs.Demand2.{build_puts, build_any_order}
+use Rattle.demands.specs.Demand2.{build_puts, build_any_order}
 use Rattle.frame_rules.specs.declared.First.{First}
 use Rattle.frame_rules.specs.Lines.{in_limits}
 use Rattle.frame_rules.specs.Rounds.{Floor, all_answered}
 use Rattle.frame_rules.specs.Frame.{used, used_part, with_used}
 use Rattle.together.specs.Machine.{Said, times_inserted}
-use Rattle.together.proofs.Demand3.{was_inserted}
+use Rattle.together.specs.Demand3.{was_inserted}
 use Rattle.frame_day.specs.Terms.{paired, keys_in, inserted_in, Follows}
 use Rattle.frame_day.specs.Counting.{paired_parts}
 use Rattle.frame_day.proofs.Line.{line_plain, line_known, line_lists, line_once, line_new}
-use Rattle.frame_day.specs.Listed.{listed_append}
-use Rattle.frame_day.proofs.Fits.{distinct_fewer}
-use Rattle.frame_day.proofs.Room.{inserted_listed, line_none_full}
+use Rattle.frame_day.proofs.Room.{listed_append, distinct_fewer, inserted_listed, line_none_full}
 use Rattle.frame_day.proofs.Room.{line_every_listed, line_bytes, inserted_times, inserted_in_lem}
 use Rattle.frame_first.specs.Limits.{InLimits, in_limits_lem}
 use Rattle.frame_day.specs.Zero.{zeros_plain, zeros_list, used_zeros}

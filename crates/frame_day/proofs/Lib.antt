@@ -2,7 +2,6 @@
 pub mod Tally
 pub mod Moments
 pub mod Line
-pub mod Fits
 pub mod Room
 pub mod Kept
 pub mod Days

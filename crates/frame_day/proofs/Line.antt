@@ -22,8 +22,8 @@ use Rattle.demands.specs.Terms.{PlainTable, list_of}
 use Rattle.frame_rules.specs.declared.First.{First}
 use Rattle.frame_rules.specs.Rounds.{Floor, all_answered}
 use Rattle.together.specs.Machine.{Said, World, begin, course, quiet, times_given, times_said, times_inserted}
-use Rattle.together.proofs.Demand3 as demand_3
-use Rattle.together.proofs.Demand3.{was_inserted}
+use Rattle.together.specs.Demand3 as demand_3
+use Rattle.together.specs.Demand3.{was_inserted}
 use Rattle.frame_day.specs.Terms.{paired, answered_so, Follows}
 use Rattle.frame_day.specs.Counting.{count_also, count_same, count_none, none_counted, count_map, paired_parts}
 use Rattle.frame_day.proofs.Moments.{idle_tasks}

@@ -3,6 +3,5 @@
 -- and the whole day.
 pub mod Terms
 pub mod Counting
-pub mod Listed
 pub mod Inserted
 pub mod Zero

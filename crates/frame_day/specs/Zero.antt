@@ -15,7 +15,7 @@ use Rattle.table_words.specs.Range.{InRange, range_in}
 use Rattle.table_words.specs.Clear.{take_replicate}
 use Rattle.theory.specs.Dealt.{and_both}
 use Rattle.demands.specs.Terms.{PlainTable, InKeys, list_of, distinct, left_by, put_all, Builds}
-use Rattle.demands.proofs.Demand2.{build_lists, build_puts}
+use Rattle.demands.specs.Demand2.{build_lists, build_puts}
 use Rattle.rules.specs.declared.Shape.{Shape}
 use Rattle.frame_rules.specs.declared.First.{First}
 use Rattle.frame_rules.specs.Frame.{used, used_part}

@@ -1,4 +1,4 @@
 // Feeding in pieces: no code, only the theorem that any pieces, fed and finished, write what the crate frame_rules
 // says.
-// The statement is in specs/Pieces.antt.
+// The statement is in proofs/Pieces.antt.
 #![tactic(auto)]

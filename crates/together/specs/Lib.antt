@@ -1,6 +1,6 @@
--- Demand 3: tasks together. The statements are in proofs/Demand3, the invariant is in Invariant.
+-- Demand 3: tasks together. The statements are in Demand3, the invariant in Invariant.
 -- Frames to Quiet: what one task's step leaves to the others. Stretch to Course: each phase's step keeps the invariant.
--- Machine to Fair, and proofs/Rest: runs of gives and steps, their history, and what it says at rest.
+-- Machine to Rest: runs of gives and steps, their history, and what it says at rest.
 pub mod Frames
 pub mod Invariant
 pub mod Stable
@@ -18,3 +18,5 @@ pub mod Course
 pub mod Machine
 pub mod History
 pub mod Fair
+pub mod Rest
+pub mod Demand3

@@ -21,11 +21,18 @@ use Rattle.together.specs.Machine.{Action, Said, World, begin, course, quiet, ti
 use Rattle.together.specs.Machine.{times_inserted}
 use Rattle.together.specs.Fair.{Means, means_full, means_shown, Fair, StepAnswer, answer_of, fair_begin}
 use Rattle.together.specs.Fair.{fair_course, step_answers}
-use Rattle.together.proofs.Rest as proof
+use Rattle.together.specs.Rest as proof
 
 -- whether a key was answered inserted
 unfoldable pub was_inserted : ℕ → List Said → Bool
 was_inserted key said = leb 1 (times_inserted key said)
+
+-- such a history is fair
+fair :
+    {sh : Shape} {bytes : List ℕ} → PlainTable sh bytes → (ts : List Task) → length ts ≤ 16 → quiet ts ≡ true →
+    (actions : List Action) → Fair sh bytes (course sh (begin bytes ts) actions)
+unfolding quiet
+fair t ts few idle actions = fair_course actions (fair_begin ts t few idle)
 
 -- "One shape, a sound unlocked table, idle tasks, gives and steps in any order": a task may also be done
 module _ {sh : Shape} {bytes : List ℕ} (t : PlainTable sh bytes) (ts : List Task) (few : length ts ≤ 16)
@@ -35,19 +42,15 @@ module _ {sh : Shape} {bytes : List ℕ} (t : PlainTable sh bytes) (ts : List Ta
     abbrev pub after : World
     after = course sh (begin bytes ts) actions
 
-    fair : Fair sh bytes after
-    unfolding quiet
-    fair = fair_course actions (fair_begin ts t few idle)
-
     -- the next step, of whatever task, is refused only by 3 (no such task) or 5 (idle or done)
     pub step_refusals : (i : ℕ) → StepAnswer after.tasks i (answer_of (step sh after.table after.tasks i))
-    step_refusals i = step_answers i fair
+    step_refusals i = step_answers i (fair t ts few idle actions)
 
     -- every answer is found, inserted or full; 4 is never given
     pub answers_known : All (λ (s : Said). (1 ≤ s.answer) × (s.answer ≤ 3)) after.said
-    answers_known = every.all_map known fair.meaning
+    answers_known = every.all_map known (fair t ts few idle actions).meaning
       where
-        known : (s : Said) → Means sh fair.shown s → (1 ≤ s.answer) × (s.answer ≤ 3)
+        known : (s : Said) → Means sh (fair t ts few idle actions).shown s → (1 ≤ s.answer) × (s.answer ≤ 3)
         known s (means_full e) = (omega arith, omega arith)
         known s (means_shown (inl e) h) = (omega arith, omega arith)
         known s (means_shown (inr e) h) = (omega arith, omega arith)
@@ -57,25 +60,18 @@ module _ {sh : Shape} {bytes : List ℕ} (t : PlainTable sh bytes) (ts : List Ta
       -- the table is sound and without locks,
       pub table_after : PlainTable sh after.table
       unfolding quiet
-      table_after = proof.rest_plain t fair done
-
-      tally :
-          (x : ℕ) →
-          bit_of (listed x (list_of sh bytes)) + times_inserted x after.said
-          ≡ bit_of (listed x (list_of sh after.table))
-      unfolding quiet
-      tally = proof.rest_tally t fair done
+      table_after = proof.rest_plain t (fair t ts few idle actions) done
 
       -- "the table lists the starting keys plus those answered inserted,"
       pub lists_after :
           (x : ℕ) → listed x (list_of sh after.table) ≡ (listed x (list_of sh bytes) || was_inserted x after.said)
-      unfolding was_inserted
+      unfolding was_inserted quiet
       lists_after x =
           go
           (listed x (list_of sh after.table))
           (listed x (list_of sh bytes))
           (times_inserted x after.said)
-          (tally x)
+          (proof.rest_tally t (fair t ts few idle actions) done x)
         where
           go : (a b : Bool) (n : ℕ) → bit_of b + n ≡ bit_of a → a ≡ (b || leb 1 n)
           go true true n e = refl
@@ -85,7 +81,8 @@ module _ {sh : Shape} {bytes : List ℕ} (t : PlainTable sh bytes) (ts : List Ta
 
       -- "none so answered twice",
       pub inserted_once : (x : ℕ) → times_inserted x after.said ≤ 1
-      inserted_once x = go (listed x (list_of sh after.table)) (tally x)
+      unfolding quiet
+      inserted_once x = go (listed x (list_of sh after.table)) (proof.rest_tally t (fair t ts few idle actions) done x)
         where
           go :
               (a : Bool) → bit_of (listed x (list_of sh bytes)) + times_inserted x after.said ≡ bit_of a →
@@ -95,7 +92,8 @@ module _ {sh : Shape} {bytes : List ℕ} (t : PlainTable sh bytes) (ts : List Ta
 
       -- and none that was there at the start
       pub inserted_new : (x : ℕ) → listed x (list_of sh bytes) ≡ true → times_inserted x after.said ≡ 0
-      inserted_new x there = go (listed x (list_of sh after.table)) (tally x)
+      unfolding quiet
+      inserted_new x there = go (listed x (list_of sh after.table)) (proof.rest_tally t (fair t ts few idle actions) done x)
         where
           go :
               (a : Bool) → bit_of (listed x (list_of sh bytes)) + times_inserted x after.said ≡ bit_of a →
@@ -106,14 +104,14 @@ module _ {sh : Shape} {bytes : List ℕ} (t : PlainTable sh bytes) (ts : List Ta
       -- each accepted give was answered
       pub answered : (x : ℕ) → times_said x after.said ≡ times_given x after.given
       unfolding quiet
-      answered = proof.rest_answers t fair done
+      answered = proof.rest_answers t (fair t ts few idle actions) done
 
       -- "If starting and accepted keys are no more distinct keys than places without guards,"
       module _ (fits : distinct sh (list_of sh bytes ++ after.given) ≤ homes sh) where
         -- "none is answered full,"
         pub none_full : All (λ (s : Said). s.answer ≢ 3) after.said
         unfolding quiet
-        none_full = proof.rest_none_full t fair done fits
+        none_full = proof.rest_none_full t (fair t ts few idle actions) done fits
 
         -- "each new key is answered inserted exactly once,"
         pub inserted_exactly_once :
@@ -121,12 +119,12 @@ module _ {sh : Shape} {bytes : List ℕ} (t : PlainTable sh bytes) (ts : List Ta
             listed x after.given ≡ true → listed x (list_of sh bytes) ≡ false → times_inserted x after.said ≡ 1
         unfolding quiet
         inserted_exactly_once x given new =
-            omega (arith, tally x, ap bit_of new, ap bit_of (proof.rest_listed t fair done fits x given))
+            omega (arith, proof.rest_tally t (fair t ts few idle actions) done x, ap bit_of new, ap bit_of (proof.rest_listed t (fair t ts few idle actions) done fits x given))
 
         -- every other answer is found
         pub found_or_inserted : All (λ (s : Said). (s.answer ≡ 1) ⊎ (s.answer ≡ 2)) after.said
         unfolding quiet
-        found_or_inserted = proof.rest_found_or_inserted t fair done fits
+        found_or_inserted = proof.rest_found_or_inserted t (fair t ts few idle actions) done fits
 
         -- "and the bytes are those of putting the new keys one by one in any order." (with any repeats)
         pub bytes_after :
@@ -136,4 +134,4 @@ module _ {sh : Shape} {bytes : List ℕ} (t : PlainTable sh bytes) (ts : List Ta
             x < keys sh → listed x ks ≡ (listed x after.given && not (listed x (list_of sh bytes)))) →
             put_all sh bytes ks ≡ after.table
         unfolding quiet
-        bytes_after ks h new = proof.rest_bytes t fair done fits ks h new
+        bytes_after ks h new = proof.rest_bytes t (fair t ts few idle actions) done fits ks h new

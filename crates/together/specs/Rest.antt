@@ -31,15 +31,14 @@ use Rattle.theory.specs.Building.{Inside, subset_length}
 use Rattle.demands.specs.Terms.{SoundTable, PlainTable, InKeys, entries_of, list_of, distinct, put_all}
 use Rattle.demands.specs.Tables.{plain_of}
 use Rattle.demands.specs.Proof2.{split_keys, in_shape, listed_here, ascending_list}
-use Rattle.demands.specs.Proof3.{listed_split, held_key, all_both, map_both, put_all_plain, ascending_keys}
+use Rattle.demands.specs.Proof3.{listed_split, held_key, keys_roomy, all_both, map_both, put_all_plain, ascending_keys}
 use Rattle.demands.specs.Proof3.{all_within}
-use Rattle.demands.proofs.Demand2.{puts_any_order}
+use Rattle.demands.specs.Demand2.{puts_any_order}
 use Rattle.together.specs.Invariant.{Unfinished}
 use Rattle.together.specs.Facts.{words_size, in_order}
 use Rattle.together.specs.Machine.{Said, World, times_given, times_said, times_inserted}
 use Rattle.together.specs.History.{quiet_counts}
 use Rattle.together.specs.Fair.{Means, means_full, means_shown, Spacious, Fair, rest_at, rest_owns}
-use Rattle.together.proofs.Space as room
 
 -- an unlocked word is its unlocked form
 unlock_free : (w : Word) → w.lock ≡ false → unlock w ≡ w
@@ -237,9 +236,34 @@ module _ {sh : Shape} {start : List ℕ} {w : World} (t : PlainTable sh start) (
       us : List Entry
       us = ascend (entries_of sh (list_of sh start ++ w.given))
 
+      in_list : InKeys sh (list_of sh start)
+      in_list = ascending_keys sh (ascending_list t.whole)
+
+      among :
+          (x : Entry) → holds x us ≡ (holds x (entries (words_of start)) || holds x (entries_of sh w.given))
+      unfolding us list
+      among x =
+          holds_ascend x (entries_of sh (list_of sh start ++ w.given))
+          ∙ ap (holds x) (map_both sh (list_of sh start) w.given)
+          ∙ holds_append x (entries_of sh (list_of sh start)) (entries_of sh w.given)
+          ∙ ap
+          (λ (fs : List Entry). holds x fs || holds x (entries_of sh w.given))
+          (split_keys sh (in_shape t.whole))
+
       space : Spacious sh start w.given us
       unfolding us
-      space = room.space t f few
+      space =
+          record {
+            room =
+                keys_roomy
+                sh
+                (list_of sh start ++ w.given)
+                low
+                (all_both sh (list_of sh start) w.given in_list f.in_keys)
+                few;
+            starts = λ x h. among x ∙ or_left (holds x (entries (words_of start))) _ h;
+            gives = λ x h. among x ∙ or_right (holds x (entries (words_of start))) _ h;
+          }
 
       pub rest_none_full : All (λ (s : Said). s.answer ≢ 3) w.said
       rest_none_full = (f.none_full us space).of_said
@@ -343,7 +367,7 @@ module _ {sh : Shape} {start : List ℕ} {w : World} (t : PlainTable sh start) (
               (list_of sh start ++ ks)
               x
               low
-              (all_both sh (list_of sh start) ks (room.in_list t f few) h)
+              (all_both sh (list_of sh start) ks in_list h)
               plain)
             where
               plain : holds x (entries_of sh (list_of sh start ++ ks)) ≡ true
@@ -399,7 +423,7 @@ module _ {sh : Shape} {start : List ℕ} {w : World} (t : PlainTable sh start) (
                     (all_within
                     sh
                     (list_of sh start ++ ks)
-                    (all_both sh (list_of sh start) ks (room.in_list t f few) h)))
+                    (all_both sh (list_of sh start) ks in_list h)))
                     new_inside,
                 few,
               )

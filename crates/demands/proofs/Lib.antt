@@ -1,2 +1,0 @@
--- The theorems of demand 2.
-pub mod Demand2
