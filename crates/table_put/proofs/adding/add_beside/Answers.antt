@@ -56,63 +56,15 @@ pub bring-requires : goal.bring-requires
 unfolding places
 bring-requires c =
     let g = c.requires.fact_3 in
-    let a = g.addable in
+    let size = c.requires.fact_2 in
+    let from_guard = at_guard (goal.at.bring-requires c).Then-l-left_guard in
+    let further = goal_right (goal.at.bring-requires c).After-right_by-goal from_guard in
     record {
-      fact_1 = omega (
-        arith,
-        goal_right (goal.at.bring-requires c).After-right_by-goal (at_guard (goal.at.bring-requires c).Then-l-left_guard),
-        reach g,
-        c.right_gap-r.ensures,
-        at_guard (goal.at.bring-requires c).Then-l-left_guard,
-        c.requires.fact_2,
-        a.home_place.last,
-        a.remainder,
-        a.low,
-      );
-      fact_2 = omega (
-        arith,
-        goal_right (goal.at.bring-requires c).After-right_by-goal (at_guard (goal.at.bring-requires c).Then-l-left_guard),
-        reach g,
-        c.right_gap-r.ensures,
-        at_guard (goal.at.bring-requires c).Then-l-left_guard,
-        c.requires.fact_2,
-        a.home_place.last,
-        a.remainder,
-        a.low,
-      );
-      fact_3 = omega (
-        arith,
-        goal_right (goal.at.bring-requires c).After-right_by-goal (at_guard (goal.at.bring-requires c).Then-l-left_guard),
-        reach g,
-        c.right_gap-r.ensures,
-        at_guard (goal.at.bring-requires c).Then-l-left_guard,
-        c.requires.fact_2,
-        a.home_place.last,
-        a.remainder,
-        a.low,
-      );
-      fact_4 = omega (
-        arith,
-        goal_right (goal.at.bring-requires c).After-right_by-goal (at_guard (goal.at.bring-requires c).Then-l-left_guard),
-        reach g,
-        c.right_gap-r.ensures,
-        at_guard (goal.at.bring-requires c).Then-l-left_guard,
-        c.requires.fact_2,
-        a.home_place.last,
-        a.remainder,
-        a.low,
-      );
-      fact_5 = omega (
-        arith,
-        goal_right (goal.at.bring-requires c).After-right_by-goal (at_guard (goal.at.bring-requires c).Then-l-left_guard),
-        reach g,
-        c.right_gap-r.ensures,
-        at_guard (goal.at.bring-requires c).Then-l-left_guard,
-        c.requires.fact_2,
-        a.home_place.last,
-        a.remainder,
-        a.low,
-      );
+      fact_1 = omega (arith, c.right_gap-r.ensures, reach g, size);
+      fact_2 = omega (arith, further, reach g, from_guard, size);
+      fact_3 = omega (arith, g.addable.home_place.last, size);
+      fact_4 = omega (arith, further);
+      fact_5 = omega (arith, g.addable.remainder, g.addable.low);
     }
 
 pub returns-else-r-right_guard : goal.returns-else-r-right_guard
@@ -135,58 +87,14 @@ pub bring-requires-else-l-left_guard : goal.bring-requires-else-l-left_guard
 unfolding places
 bring-requires-else-l-left_guard c =
     let g = c.requires.fact_3 in
-    let a = g.addable in
+    let size = c.requires.fact_2 in
+    let further = c.right_by-goal-else-l-left_guard.ensures in
     record {
-      fact_1 = omega (
-        arith,
-        c.right_by-goal-else-l-left_guard.ensures,
-        reach g,
-        off_guard (goal.at.bring-requires-else-l-left_guard c).Else-l-left_guard,
-        c.requires.fact_2,
-        a.home_place.last,
-        a.remainder,
-        a.low,
-      );
-      fact_2 = omega (
-        arith,
-        c.right_by-goal-else-l-left_guard.ensures,
-        reach g,
-        off_guard (goal.at.bring-requires-else-l-left_guard c).Else-l-left_guard,
-        c.requires.fact_2,
-        a.home_place.last,
-        a.remainder,
-        a.low,
-      );
-      fact_3 = omega (
-        arith,
-        c.right_by-goal-else-l-left_guard.ensures,
-        reach g,
-        off_guard (goal.at.bring-requires-else-l-left_guard c).Else-l-left_guard,
-        c.requires.fact_2,
-        a.home_place.last,
-        a.remainder,
-        a.low,
-      );
-      fact_4 = omega (
-        arith,
-        c.right_by-goal-else-l-left_guard.ensures,
-        reach g,
-        off_guard (goal.at.bring-requires-else-l-left_guard c).Else-l-left_guard,
-        c.requires.fact_2,
-        a.home_place.last,
-        a.remainder,
-        a.low,
-      );
-      fact_5 = omega (
-        arith,
-        c.right_by-goal-else-l-left_guard.ensures,
-        reach g,
-        off_guard (goal.at.bring-requires-else-l-left_guard c).Else-l-left_guard,
-        c.requires.fact_2,
-        a.home_place.last,
-        a.remainder,
-        a.low,
-      );
+      fact_1 = omega (arith, reach g, size);
+      fact_2 = omega (arith, further, reach g, size);
+      fact_3 = omega (arith, g.addable.home_place.last, size);
+      fact_4 = omega (arith, further, off_guard (goal.at.bring-requires-else-l-left_guard c).Else-l-left_guard);
+      fact_5 = omega (arith, g.addable.remainder, g.addable.low);
     }
 
 pub returns-else-l-left_guard : goal.returns-else-l-left_guard
