@@ -12,9 +12,10 @@ import collections
 import glob
 import os
 import re
+import subprocess
 import sys
 
-KIT = "/opt/rattle/rattle"
+KIT = os.path.join(os.path.dirname(subprocess.check_output(["rt", "doc"], text=True).strip()), "rattle")
 NAME = re.compile(r"[^\s(){}\[\];,.λ∀⌜⌝@\"«»`]+")
 DECLARED = re.compile(r"^(\s*)((?:(?:pub|abbrev|unfoldable|data|record) )*)([^\s(){}\[\].;,\"]+)((?: \{[^{}]*\})*) :(?=\s|$)")
 # A field whose snake case would hide the definition that its record's types name.
