@@ -1,24 +1,15 @@
 -- Answers and their numbers (01): 0 with the call's values where it is accepted, else the refusal's number with zeros
--- beside it. The enums of src/ have the paper's number and values here; promises are stated through these
--- definitions.
+-- beside it. The calls answer a Result, which has the paper's number and values here; promises are stated through
+-- these definitions.
 -- Assumes nothing.
-use Rattle.std.specs.Prelude.{ℕ}
+use Rattle.std.specs.Prelude.{ℕ, Bool, Result, Ok, Err}
 use Rattle.rules.specs.declared.Refusal.{Refusal}
 use Rattle.rules.specs.declared.Refusal.TheVariants.{BadShape, BadKey, BadTask, Busy, AtRest, Unsound, Locked}
 use Rattle.rules.specs.declared.Refusal.TheVariants.{Full, TooFewSlots}
-use Rattle.rules.specs.declared.FindAnswer.{FindAnswer}
-use Rattle.rules.specs.declared.FindAnswer.TheVariants as find_answer
 use Rattle.rules.specs.declared.PutAnswer.{PutAnswer}
-use Rattle.rules.specs.declared.PutAnswer.TheVariants as put_answer
-use Rattle.rules.specs.declared.ListAnswer.{ListAnswer}
-use Rattle.rules.specs.declared.ListAnswer.TheVariants as list_answer
-use Rattle.rules.specs.declared.FillAnswer.{FillAnswer}
-use Rattle.rules.specs.declared.FillAnswer.TheVariants as fill_answer
-use Rattle.rules.specs.declared.Done.{Done}
-use Rattle.rules.specs.declared.Done.TheVariants as done
+use Rattle.rules.specs.declared.PutAnswer.TheVariants.{Found, Inserted}
+use Rattle.rules.specs.Lists.{bit_of}
 use Rattle.rules.specs.declared.Task.{Task}
-use Rattle.rules.specs.declared.Turn.{Turn}
-use Rattle.rules.specs.declared.Turn.TheVariants as turn
 
 pub record Answer : Type 0 where
   pub number : ℕ
@@ -46,34 +37,32 @@ number_of_refusal Locked = 7
 number_of_refusal Full = 8
 number_of_refusal TooFewSlots = 9
 
+-- a call's answer by what it gives where it is accepted, and the number that stands for it
+abbrev pub answer_by : {A : Type 0} → (A → ℕ) → Result A Refusal → Answer
+answer_by value (Ok a) = says (value a)
+answer_by value (Err n) = refuses (number_of_refusal n)
+
 -- find: absent 0, present 1
-abbrev pub find_says : FindAnswer → Answer
-find_says find_answer.Absent = says 0
-find_says find_answer.Present = says 1
-find_says (find_answer.Refused n) = refuses (number_of_refusal n)
+abbrev pub find_says : Result Bool Refusal → Answer
+find_says = answer_by bit_of
 
 -- put: found 1, inserted 2
-abbrev pub put_says : PutAnswer → Answer
-put_says put_answer.Found = says 1
-put_says put_answer.Inserted = says 2
-put_says (put_answer.Refused n) = refuses (number_of_refusal n)
+abbrev pub put_number : PutAnswer → ℕ
+put_number Found = 1
+put_number Inserted = 2
 
--- list: the count
-abbrev pub list_says : ListAnswer → Answer
-list_says (list_answer.Listed n) = says n
-list_says (list_answer.Refused n) = refuses (number_of_refusal n)
+abbrev pub put_says : Result PutAnswer Refusal → Answer
+put_says = answer_by put_number
 
--- fill: the figure
-abbrev pub fill_says : FillAnswer → Answer
-fill_says (fill_answer.Figure n) = says n
-fill_says (fill_answer.Refused n) = refuses (number_of_refusal n)
+-- list: the count; fill: the figure
+abbrev pub number_says : Result ℕ Refusal → Answer
+number_says = answer_by (λ n. n)
 
 -- build, give and step: no value
-abbrev pub done_says : Done → Answer
-done_says done.Accepted = says 0
-done_says (done.Refused n) = refuses (number_of_refusal n)
+abbrev pub done_says : Result Unit Refusal → Answer
+done_says = answer_by (λ _. 0)
 
 -- give and step on a record by value: 0 and the record that follows, or a refusal's number and the record as it was
-abbrev pub turn_says : Task → Turn → Leaves Task
-turn_says t (turn.Next u) = leaves (says 0) u
-turn_says t (turn.Refused n) = leaves (refuses (number_of_refusal n)) t
+abbrev pub turn_says : Task → Result Task Refusal → Leaves Task
+turn_says t (Ok u) = leaves (says 0) u
+turn_says t (Err n) = leaves (refuses (number_of_refusal n)) t

@@ -2,78 +2,71 @@
 // C has no enum that holds a number, so the refusal's number stands in the highest byte and the value below it.
 #![tactic(auto)]
 
-ghost use Rattle.std.specs.Prelude.{◌≡◌, ◌*◌, ◌<◌};
-ghost use Rattle.rules.specs.Answer.{number_of_refusal, find_says, put_says, list_says, fill_says, done_says, refuses};
+ghost use Rattle.std.specs.Prelude.{◌≡◌, ℕ};
+ghost use Rattle.rules.specs.Lists.{bit_of};
+ghost use Rattle.rules.specs.Answer.{answer_by, put_number};
 ghost use Rattle.table_packed.specs.Packed.{packed};
 
-use rules::{Done, FillAnswer, FindAnswer, ListAnswer, PutAnswer, Refusal};
+use rules::{PutAnswer, Refusal};
 
-// The refusal's number, for whatever prints or packs it.
-pub fn refusal_number(n: Refusal) -> u8
-    ensures { (result ≡ number_of_refusal n) × (result < 10) }
-{
-    match n {
-        Refusal::BadShape => 1,
-        Refusal::BadKey => 2,
-        Refusal::BadTask => 3,
-        Refusal::Busy => 4,
-        Refusal::AtRest => 5,
-        Refusal::Unsound => 6,
-        Refusal::Locked => 7,
-        Refusal::Full => 8,
-        Refusal::TooFewSlots => 9,
+// What a call gives where it is accepted, and the number that stands for it.
+pub trait Value {
+    ghost number: { Self → ℕ };
+
+    fn number(self) -> u64
+        ensures { result ≡ number self };
+}
+
+// Find: absent 0, present 1.
+impl Value for bool {
+    ghost number = { bit_of };
+
+    fn number(self) -> u64 {
+        u64::from(self)
     }
 }
 
-fn refused(n: Refusal) -> u64
-    ensures { result ≡ packed (refuses (number_of_refusal n)) }
-{
-    72057594037927936 * (refusal_number(n) as u64)
-}
+// Put: found 1, inserted 2.
+impl Value for PutAnswer {
+    ghost number = { put_number };
 
-pub fn pack_find(answer: FindAnswer) -> u64
-    ensures { result ≡ packed (find_says answer) }
-{
-    match answer {
-        FindAnswer::Absent => 0,
-        FindAnswer::Present => 1,
-        FindAnswer::Refused(n) => refused(n),
+    fn number(self) -> u64 {
+        u64::from(self as u8)
     }
 }
 
-pub fn pack_put(answer: PutAnswer) -> u64
-    ensures { result ≡ packed (put_says answer) }
-{
-    match answer {
-        PutAnswer::Found => 1,
-        PutAnswer::Inserted => 2,
-        PutAnswer::Refused(n) => refused(n),
+// List: the count.
+impl Value for usize {
+    ghost number = { λ n. n };
+
+    fn number(self) -> u64 {
+        self as u64
     }
 }
 
-pub fn pack_list(answer: ListAnswer) -> u64
-    ensures { result ≡ packed (list_says answer) }
-{
-    match answer {
-        ListAnswer::Listed(count) => count as u64,
-        ListAnswer::Refused(n) => refused(n),
+// The fill figure.
+impl Value for u32 {
+    ghost number = { λ n. n };
+
+    fn number(self) -> u64 {
+        u64::from(self)
     }
 }
 
-pub fn pack_fill(answer: FillAnswer) -> u64
-    ensures { result ≡ packed (fill_says answer) }
-{
-    match answer {
-        FillAnswer::Figure(figure) => figure as u64,
-        FillAnswer::Refused(n) => refused(n),
+// Build has nothing to give.
+impl Value for () {
+    ghost number = { λ _. 0 };
+
+    fn number(self) -> u64 {
+        0
     }
 }
 
-pub fn pack_done(answer: Done) -> u64
-    ensures { result ≡ packed (done_says answer) }
+pub fn pack<A: Value>(answer: Result<A, Refusal>) -> u64
+    ensures { result ≡ packed (answer_by A.number answer) }
 {
     match answer {
-        Done::Accepted => 0,
-        Done::Refused(n) => refused(n),
+        Ok(value) => value.number(),
+        Err(n) => 72057594037927936 * u64::from(u8::from(n)),
     }
 }
