@@ -2,13 +2,15 @@
 -- laid over one another tell whether all remainders are low and whether one is locked; each word rises to the next,
 -- and the last to the gap after it. `check_told` adds the ends, and the bits that were counted before.
 -- Assumes nothing.
-use Rattle.std.specs.Prelude.{ℕ, suc, ◌+◌, ◌*◌, ◌/◌, ◌%◌, ◌^◌, ◌≤◌, ◌<◌, ◌≡◌, refl, Bool, true, false, not, ◌&&◌, ◌||◌, List, [], ◌∷◌, ltb, eqb, length}
+use Rattle.std.specs.Prelude.{ℕ, suc, ◌+◌, ◌*◌, ◌/◌, ◌%◌, ◌^◌, ◌≤◌, ◌<◌, ◌≡◌, refl, Bool, true, false, cond, not, ◌&&◌, ◌||◌, List, [], ◌∷◌, ltb, eqb, length, Result, Ok, Err}
 use Rattle.std.proofs.Common.{sym, ◌∙◌, ap, ap₂, add-one, arith, ltb-true, ltb-false, lt-ltb, le-ltb, eqb-true}
 use Rattle.std.proofs.Math.Bool.{and-true, or-false, and_assoc, or_assoc}
 use Rattle.std.specs.Int.Bits.{bit_or}
 use Rattle.std.proofs.lemmas.Nat.{or_lt, or_mod}
 use Rattle.std.proofs.Math.Seq.{slice}
 use Rattle.rules.specs.declared.Shape.{Shape}
+use Rattle.rules.specs.declared.Refusal.{Refusal}
+use Rattle.rules.specs.declared.Refusal.TheVariants.{Unsound, Locked}
 use Rattle.rules.specs.Lists.{count, all, any}
 use Rattle.rules.specs.Word.{Word, word_of, is_void}
 use Rattle.rules.specs.Bytes.{words_of}
@@ -27,6 +29,10 @@ sound_between sh ws l r = is_void (at ws l) && is_void (at ws r) && sound_run sh
 
 unfoldable pub check_of : Shape → List Word → ℕ → ℕ → Check
 check_of sh ws l r = record { sound = sound_between sh ws l r; locked = locked (slice l (suc r) ws) }
+
+-- what a call that asks for a sound and unlocked cluster is refused by: soundness comes before the locks
+abbrev pub passed : Check → Result Unit Refusal
+passed c = cond c.sound (cond c.locked (Err Locked) (Ok tt)) (Err Unsound)
 
 check_path : {c d : Check} → c.sound ≡ d.sound → c.locked ≡ d.locked → c ≡ d
 check_path p q = λ i. record { sound = p i; locked = q i }
@@ -262,3 +268,6 @@ check_told sh bs l r lt within n m virgins changes up low lock pass =
     ends true true even s same = same refl
     ends true false even s same = refl
     ends false b even s same = refl
+
+-- what the pass goes by
+pub ruleset check_laws = (over_small, check_passed, check_ended, check_told)

@@ -1,10 +1,9 @@
 -- A run taken place by place: `run_step`, `run_end`, `run_last`; the steps of the scan for an empty place; and
 -- soundness in one pass, `passes`, which `passes_sound` says is the rule's.
 -- Assumes nothing.
-use Rattle.std.specs.Prelude.{ℕ, ◌+◌, ◌*◌, ◌≤◌, ◌<◌, ◌≡◌, refl, Bool, true, false, ◌&&◌, ◌||◌, length, take, eqb}
+use Rattle.std.specs.Prelude.{ℕ, ◌+◌, ◌*◌, ◌≤◌, ◌<◌, ◌≡◌, refl, Bool, true, false, ◌&&◌, ◌||◌, List, [], ◌∷◌, ◌++◌, length, take, eqb}
 use Rattle.std.proofs.Common.{◌∙◌, add-one, zero-add, arith, drop_of_length-le, length-take, length-take-le, take-suc}
 use Rattle.std.proofs.Math.Bool.{and-true, and_comm}
-use mathlib.Core.List.{List, [], ◌∷◌, ◌++◌}
 use Rattle.std.proofs.Math.Nat.{add-zero, add_assoc}
 use Rattle.std.proofs.Math.Seq.{slice, slice-cons}
 use Rattle.std.proofs.lemmas.List.{drop-append-le}
@@ -145,3 +144,8 @@ pub passes_end :
     passes d (word_of v) n m (slice i r (words_of bs)) ≡ ((word_of v).change && eqb n m)
 unfolding passes
 passes_end bs i r d v n m h = rw (run_end bs i r h)
+
+-- what a pass over a run goes by
+pub ruleset occupied_laws = (run_after, occupied_passed, gap_met, occupied_end)
+
+pub ruleset sound_laws = (sound_start, word_passed, word_refused, passes_end)

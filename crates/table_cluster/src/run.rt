@@ -4,31 +4,26 @@ ghost use Rattle.rules.specs.Lists.{count, all};
 ghost use Rattle.rules.specs.Word.{word_of};
 ghost use Rattle.rules.specs.Bytes.{words_of};
 ghost use Rattle.rules.specs.Table.{between, sound_run, locked};
-ghost use Rattle.table_words.specs.Range.{InRange};
 ghost use Rattle.theory.specs.Dealt.{is_change, is_virgin, is_occupied};
 ghost use Rattle.table_cluster.specs.Run as spec;
 ghost use Rattle.table_cluster.specs.Check as check;
-ghost use Rattle.table_cluster.specs.Check.{check_of};
+ghost use Rattle.table_cluster.specs.Check.{check_of, passed};
 
 use crate::gaps::End;
-use rules::Shape;
-use table_words::bit::bit_of;
+use rules::Refusal;
 use table_words::bytes::word_at;
 use table_words::place::{Place, right_of};
-use table_words::shape::remainders;
+use table_words::shape::GoodShape;
 use table_words::word::{change, is_void, lock, occupied, remainder, virgin, with_change};
 
+#[tactic(auto, using(crate::specs::Run::occupied_laws))]
 pub fn all_occupied(table: &[u8], l: Place, r: Place) -> bool
-    requires fact_1 { l.0 < r.0 }
-    requires fact_2 { 2 * r.0 ≤ length table.now }
+    requires below { l.0 < r.0 }
+    requires inside { 2 * r.0 ≤ length table.now }
     ensures { result ≡ all is_occupied (between (words_of table.now) l.0 r.0) }
 {
-    let end = r.0;
-    let mut i = right_of(l).0;
-    while i < end {
-        if occupied(word_at(table, Place(i))) {
-            i += 1;
-        } else {
+    for i in right_of(l).0..r.0 {
+        if !occupied(word_at(table, Place(i))) {
             return false;
         }
     }
@@ -36,90 +31,88 @@ pub fn all_occupied(table: &[u8], l: Place, r: Place) -> bool
 }
 
 // Whether the word w may stand after the word v: its remainder is low, and above v's unless v ends its group.
+#[tactic(auto, unfolding(crate::specs::Run::follows))]
 fn follows(low: u32, v: u16, w: u16) -> bool
     ensures { result ≡ spec.follows low (word_of v) (word_of w) }
 {
     let x = remainder(w);
-    if (x as u32) < low {
-        if change(v) { true } else { remainder(v) < x }
-    } else {
-        false
-    }
+    u32::from(x) < low && (change(v) || remainder(v) < x)
 }
 
 // One pass. Before the first place stands, as it were, a word that ends a group.
-pub fn sound_run(sh: Shape, table: &[u8], l: Place, r: Place) -> bool
-    requires fact_1 { InRange sh }
-    requires fact_2 { l.0 < r.0 }
-    requires fact_3 { 2 * r.0 ≤ length table.now }
-    ensures { result ≡ sound_run sh (between (words_of table.now) l.0 r.0) }
+#[tactic(auto, using(crate::specs::Run::sound_laws))]
+pub fn sound_run(sh: GoodShape, table: &[u8], l: Place, r: Place) -> bool
+    requires below { l.0 < r.0 }
+    requires inside { 2 * r.0 ≤ length table.now }
+    ensures { result ≡ sound_run sh.shape (between (words_of table.now) l.0 r.0) }
 {
-    let low = remainders(sh);
-    let end = r.0;
+    let low = sh.remainders();
     let mut last = with_change(0, true);
-    let mut virgins: u32 = 0;
-    let mut changes: u32 = 0;
-    let mut i = right_of(l).0;
-    while i < end {
+    let mut virgins = 0;
+    let mut changes = 0;
+    for i in right_of(l).0..r.0 {
         let w = word_at(table, Place(i));
-        if follows(low, last, w) {
-            virgins += bit_of(virgin(w));
-            changes += bit_of(change(w));
-            last = w;
-            i += 1;
-        } else {
+        if !follows(low, last, w) {
             return false;
         }
+        virgins += u32::from(virgin(w));
+        changes += u32::from(change(w));
+        last = w;
     }
-    if change(last) {
-        virgins == changes
-    } else {
-        false
-    }
+    change(last) && virgins == changes
 }
 
 // What a pass over a run tells.
-#[derive(Clone, Copy)]
+#[derive(Clone, Copy, Debug, PartialEq, Eq)]
 pub struct Check {
     pub sound: bool,
     pub locked: bool,
 }
 
+impl Check {
+    // Whether a call may go on: soundness comes before the locks.
+    pub fn passes(self) -> Result<(), Refusal>
+        ensures { result ≡ passed self }
+    {
+        if !self.sound {
+            Err(Refusal::Unsound)
+        } else if self.locked {
+            Err(Refusal::Locked)
+        } else {
+            Ok(())
+        }
+    }
+}
+
 // Whether v ends its group or the remainder of w is above v's.
+#[tactic(auto, unfolding(crate::specs::Check::rises))]
 fn rises(v: u16, w: u16) -> bool
     ensures { result ≡ check.rises (word_of v) (word_of w) }
 {
-    if change(v) {
-        true
-    } else {
-        remainder(v) < remainder(w)
-    }
+    change(v) || remainder(v) < remainder(w)
 }
 
 // Soundness and locks in one pass, of the run between two ends and of the ends themselves. There is no branch in the
 // loop, so that it is made for vector units: the words are laid over one another, and each is held against the next.
-pub fn check_run(sh: Shape, table: &[u8], l: Place, r: End) -> Check
-    requires in_range_1 { InRange sh }
-    requires in_range_2 { l.0 < r.gap.0 }
-    requires in_range_3 { 2 * r.gap.0 + 1 < length table.now }
+#[tactic(auto, using(crate::specs::Check::check_laws))]
+pub fn check_run(sh: GoodShape, table: &[u8], l: Place, r: End) -> Check
+    requires below { l.0 < r.gap.0 }
+    requires inside { 2 * r.gap.0 + 1 < length table.now }
     requires virgins_value { r.virgins ≡ count is_virgin (between (words_of table.now) l.0 r.gap.0) }
     requires changes_value { r.changes ≡ count is_change (between (words_of table.now) l.0 r.gap.0) }
-    ensures { result ≡ check_of sh (words_of table.now) l.0 r.gap.0 }
+    ensures { result ≡ check_of sh.shape (words_of table.now) l.0 r.gap.0 }
 {
     let first = word_at(table, l);
     let last = word_at(table, r.gap);
-    let end = r.gap.0;
     let mut up = true;
-    let mut over: u16 = 0;
-    let mut i = right_of(l).0;
-    while i < end {
+    let mut over = 0;
+    for i in right_of(l).0..r.gap.0 {
         let w = word_at(table, Place(i));
         let next = word_at(table, right_of(Place(i)));
-        up = up & rises(w, next);
-        over = over | w;
-        i += 1;
+        up &= rises(w, next);
+        over |= w;
     }
-    let low = (remainder(over) as u32) < remainders(sh);
+    let low = u32::from(remainder(over)) < sh.remainders();
     let even = r.virgins == r.changes;
     Check {
         sound: is_void(first) & is_void(last) & up & low & even,

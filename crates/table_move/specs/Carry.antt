@@ -1,17 +1,14 @@
 -- A payload held in the hand: each place that the hand passes takes its neighbour's payload (`shifts`), and at the goal
--- the held one is put down (`moves_shift`). `Shifting` is the invariant of both loops, with `shift_on`, `shift_ends`.
+-- the held one is put down (`moves_shift`). `Shifting` is the invariant of the loop, with `shift_on`, `shift_ends`.
 -- Assumes nothing.
-use Rattle.std.specs.Prelude.{ℕ, zero, suc, ◌+◌, ◌-◌, ◌*◌, ◌<◌, ◌≡◌, refl, ◌≢◌, set}
-use Rattle.std.proofs.Math.Path.{sym, ap}
-use Rattle.std.proofs.Common.{ap₂, ◌∙◌, lt-ltb, le-ltb, length-set, set-set, get_or-set_same, get_or-set_other}
-use mathlib.Core.List.{List, [], ◌∷◌}
-use native.Mathlib.Omega.{arith}
-use Rattle.std.proofs.Math.ListN.{length}
+use Rattle.std.specs.Prelude.{ℕ, zero, suc, ◌+◌, ◌-◌, ◌*◌, ◌<◌, ◌≡◌, refl, ◌≢◌, List, [], ◌∷◌, length, set}
+use Rattle.std.proofs.Common.{sym, ap, ap₂, ◌∙◌, arith, lt-ltb, le-ltb, length-set, set-set, get_or-set_same, get_or-set_other}
 use Rattle.std.proofs.lemmas.List.{set-get_or}
 use Rattle.rules.specs.Word.{Word, word_of, zero_word, with_payload}
 use Rattle.rules.specs.Bytes.{words_of}
 use Rattle.rules.specs.Table.{at}
 use Rattle.rules.specs.Phase.{exchange}
+use Rattle.table_words.specs.Sides.{Side, left, right, Ahead, beside}
 use Rattle.theory.specs.Motion.{
   toward,
   moves,
@@ -121,7 +118,7 @@ moves_shift bs hand goal low near =
     refl)
     ∙ ap (λ (us : List Word). moves (distance hand goal) us hand goal) (set-get_or (words_of bs) hand zero_word)
 
--- ---- the loops, on the lent bytes: the shifts that are left give what all give from the start
+-- ---- the loop, on the lent bytes: the shifts that are left give what all give from the start
 
 pub record Shifting (bs₀ : List ℕ) (hand₀ goal : ℕ) (bs : List ℕ) (hand : ℕ) : Type 0 where
   pub size : length bs ≡ length bs₀
@@ -140,6 +137,20 @@ heads_apart : {hand goal next : ℕ} → Heads hand goal next → hand ≡ goal 
 heads_apart (rightward lt) same = omega arith
 heads_apart (leftward lt) same = omega arith
 
+pub heads_to : (s : Side) (hand goal : ℕ) → Ahead s hand goal → Heads hand goal (beside s hand)
+heads_to left hand goal lt = leftward lt
+heads_to right hand goal lt = rightward lt
+
+-- it is in the table where both are
+pub heads_near : {hand goal next n : ℕ} → Heads hand goal next → 2 * hand + 1 < n → 2 * goal + 1 < n → 2 * next + 1 < n
+heads_near (rightward lt) here there = omega arith
+heads_near (leftward lt) here there = omega arith
+
+pub nearer : {hand goal next : ℕ} → Heads hand goal next → distance next goal < distance hand goal
+unfolding distance
+nearer (rightward lt) = omega arith
+nearer (leftward lt) = omega arith
+
 module _ {bs₀ : List ℕ} {hand₀ goal : ℕ} {bs : List ℕ} {hand : ℕ} (s : Shifting bs₀ hand₀ goal bs hand) where
   -- the payload of the neighbour towards the goal is written at the hand
   pub shift_on :
@@ -154,7 +165,7 @@ module _ {bs₀ : List ℕ} {hand₀ goal : ℕ} {bs : List ℕ} {hand : ℕ} (s
   shift_on next v w k cs side read own made size write =
       record {
         size = size ∙ s.size;
-        here = near side;
+        here = heads_near side s.here s.there;
         there = s.there;
         rest =
             s.rest
@@ -165,10 +176,6 @@ module _ {bs₀ : List ℕ} {hand₀ goal : ℕ} {bs : List ℕ} {hand : ℕ} (s
             ∙ ap (λ (us : List Word). shifts (distance next goal) us next goal) (sym written);
       }
     where
-      near : {q : ℕ} → Heads hand goal q → 2 * q + 1 < length bs₀
-      near (rightward lt) = omega (arith, s.there)
-      near (leftward lt) = omega (arith, s.here)
-
       written : words_of cs ≡ holding (at (words_of bs) next) (words_of bs) hand
       written = write ∙ ap (set (words_of bs) hand) (made ∙ ap₂ with_payload read own)
 

@@ -4,12 +4,15 @@ ghost use Rattle.rules.specs.Bytes.{words_of};
 ghost use Rattle.rules.specs.Phase as phase;
 ghost use Rattle.theory.specs.Motion as motion;
 ghost use Rattle.theory.specs.Motion.{fill_at, moves};
+ghost use Rattle.table_words.specs.Sides.{Toward};
 ghost use Rattle.table_move.specs.Carry.{shifts};
 
 use table_words::bytes::{set_word, word_at};
 use table_words::place::{Place, left_of, right_of};
+use table_words::side::{Left, Right, Side};
 use table_words::word::{filled_with, with_payload};
 
+#[tactic(auto, unfolding(theory::specs::Motion::fill_at))]
 pub fn fill_at(table: &mut [u8], p: Place, x: u16)
     requires fact_1 { 2 * p.0 + 1 < length table.old }
     requires fact_2 { x < 4096 }
@@ -19,6 +22,7 @@ pub fn fill_at(table: &mut [u8], p: Place, x: u16)
     set_word(table, p, filled_with(x, w));
 }
 
+#[tactic(auto, unfolding(rules::specs::Phase::exchange))]
 pub fn exchange(table: &mut [u8], p: Place, q: Place)
     requires fact_1 { 2 * p.0 + 1 < length table.old }
     requires fact_2 { 2 * q.0 + 1 < length table.old }
@@ -31,70 +35,52 @@ pub fn exchange(table: &mut [u8], p: Place, q: Place)
 }
 
 // The neighbour of hand towards goal.
+#[tactic(auto, unfolding(theory::specs::Motion::toward))]
 pub fn toward(hand: Place, goal: Place) -> Place
     requires { hand.0 ≡ goal.0 → ⊥ }
     ensures { result.0 ≡ motion.toward hand.0 goal.0 }
 {
-    if hand.0 < goal.0 {
+    if hand < goal {
         right_of(hand)
     } else {
         left_of(hand)
     }
 }
 
-// The payloads of the places after hand, up to goal, each one place to the left. One loop for each direction: with the
-// direction known the compiler shifts many words at a time.
-fn shift_left(table: &mut [u8], hand: Place, goal: Place)
-    requires fact_1 { 2 * hand.0 + 1 < length table.old }
-    requires fact_2 { 2 * goal.0 + 1 < length table.old }
-    requires fact_3 { hand.0 ≤ goal.0 }
+// The payloads of the places on the way from hand to goal, which lies to the side S of it, each one place back. With
+// the side known the compiler shifts many words at a time.
+fn shift_to<S: Side>(table: &mut [u8], hand: Place, goal: Place)
+    requires hand_in_table { 2 * hand.0 + 1 < length table.old }
+    requires goal_in_table { 2 * goal.0 + 1 < length table.old }
+    requires toward { Toward S.side hand.0 goal.0 }
     ensures { words_of table.new
         ≡ shifts (motion.distance hand.0 goal.0) (words_of table.old) hand.0 goal.0 }
 {
     let mut p = hand;
-    while p.0 < goal.0 {
-        let next = right_of(p);
-        let right = word_at(table, next);
+    while S::is_ahead(p, goal) {
+        let next = S::beside(p);
+        let ahead = word_at(table, next);
         let own = word_at(table, p);
-        set_word(table, p, with_payload(right, own));
+        set_word(table, p, with_payload(ahead, own));
         p = next;
     }
 }
 
-// The payloads from goal on, before hand, each one place to the right.
-fn shift_right(table: &mut [u8], hand: Place, goal: Place)
-    requires fact_1 { 2 * hand.0 + 1 < length table.old }
-    requires fact_2 { 2 * goal.0 + 1 < length table.old }
-    requires fact_3 { goal.0 ≤ hand.0 }
-    ensures { words_of table.new
-        ≡ shifts (motion.distance hand.0 goal.0) (words_of table.old) hand.0 goal.0 }
-{
-    let mut p = hand;
-    while p.0 > goal.0 {
-        let next = left_of(p);
-        let left = word_at(table, next);
-        let own = word_at(table, p);
-        set_word(table, p, with_payload(left, own));
-        p = next;
-    }
-}
-
-// The one of the two that leads from hand to goal.
+// The shift to the side where the goal lies.
 fn shift(table: &mut [u8], hand: Place, goal: Place)
     requires { (2 * hand.0 + 1 < length table.old) × (2 * goal.0 + 1 < length table.old) }
     ensures { words_of table.new
         ≡ shifts (motion.distance hand.0 goal.0) (words_of table.old) hand.0 goal.0 }
 {
-    if hand.0 < goal.0 {
-        shift_left(table, hand, goal);
-        return;
+    if hand < goal {
+        shift_to::<Right>(table, hand, goal);
     } else {
-        shift_right(table, hand, goal);
-        return;
+        shift_to::<Left>(table, hand, goal);
     }
 }
 
 // The moves to the goal, with the payload held back until the end: the places that the hand passes only shift.
+#[tactic(auto, using(crate::specs::Carry::moves_shift))]
 pub fn carry(table: &mut [u8], hand: Place, goal: Place)
     requires fact_1 { 2 * hand.0 + 1 < length table.old }
     requires fact_2 { 2 * goal.0 + 1 < length table.old }

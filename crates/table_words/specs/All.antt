@@ -1,12 +1,9 @@
 -- Whether all of a list pass a test, `all`. `all_on` to `all_told`: asked one by one from the left, the laws of such a
 -- loop. `all_at`: what holds of all holds at a place. `all_append`: over lists joined.
 -- Assumes nothing.
-use Prim.Native.Nat.{ℕ, zero, suc, ◌+◌, ◌≤◌, ◌<◌}
-use Rattle.std.specs.Prelude.{◌≡◌, Bool, true, false, ◌&&◌, length, get_or, drop}
-use Rattle.std.proofs.Math.Path.{refl}
+use Rattle.std.specs.Prelude.{ℕ, zero, suc, ◌+◌, ◌≤◌, ◌<◌, ◌≡◌, refl, Bool, true, false, ◌&&◌, List, [], ◌∷◌, ◌++◌, length, get_or, drop}
 use Rattle.std.proofs.Common.{sym, add-one, arith, drop_of_length-le}
 use Rattle.std.proofs.Math.Bool.{and-true, and_assoc, and-eq-true_iff}
-use mathlib.Core.List.{List, [], ◌∷◌, ◌++◌}
 use Rattle.std.proofs.Math.Seq.{drop-cons}
 use Rattle.rules.specs.Lists.{all}
 

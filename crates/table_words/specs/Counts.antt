@@ -1,8 +1,7 @@
 -- How many of a list pass a test, `count`: no more than there are, `count_le`; over lists joined, `count_append`.
 -- Assumes nothing.
-use Rattle.std.specs.Prelude.{◌+◌, ◌≤◌, ◌≡◌, Bool, length}
-use mathlib.Core.List.{List, [], ◌∷◌, ◌++◌}
-use native.Mathlib.Omega.{arith}
+use Rattle.std.specs.Prelude.{◌+◌, ◌≤◌, ◌≡◌, Bool, List, [], ◌∷◌, ◌++◌, length}
+use Rattle.std.proofs.Common.{arith}
 use Rattle.rules.specs.Lists.{count}
 use Rattle.table_words.specs.Number.{bit_small}
 

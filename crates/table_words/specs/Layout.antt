@@ -32,16 +32,17 @@ word_at (low ∷ high ∷ bs) (suc p) k h e = word_at bs p k (omega arith) (rw (
 halves : (n : ℕ) → n % 256 + 256 * (n / 256) ≡ n
 halves n = omega arith
 
--- the two bytes of place p written write the word at place p
+-- the two bytes of place p written, low byte first, write the word at place p
 pub word_set :
-    (bs : List ℕ) (p n : ℕ) → 2 * p + 1 < length bs →
-    words_of (set (set bs (2 * p) (n % 256)) (2 * p + 1) (n / 256)) ≡ set (words_of bs) p (word_of n)
+    (bs : List ℕ) (p n low high : ℕ) → 2 * p + 1 < length bs → low + 256 * high ≡ n →
+    words_of (set (set bs (2 * p) low) (2 * p + 1) high) ≡ set (words_of bs) p (word_of n)
 unfolding words_of
-word_set [] p n h = absurd (omega arith)
-word_set (low ∷ []) p n h = absurd (omega arith)
-word_set (low ∷ high ∷ bs) zero n h = ap (λ k. word_of k ∷ words_of bs) (halves n)
-word_set (low ∷ high ∷ bs) (suc p) n h =
-    rw (next_high p, next_low p) (ap (λ ws. word_of (low + 256 * high) ∷ ws) (word_set bs p n (omega arith)))
+word_set [] p n low high h e = absurd (omega arith)
+word_set (_ ∷ []) p n low high h e = absurd (omega arith)
+word_set (_ ∷ _ ∷ bs) zero n low high h e = ap (λ k. word_of k ∷ words_of bs) e
+word_set (first ∷ second ∷ bs) (suc p) n low high h e =
+    rw (next_high p, next_low p)
+    (ap (λ ws. word_of (first + 256 * second) ∷ ws) (word_set bs p n low high (omega arith) e))
 
 pub words_length : (bs : List ℕ) (n : ℕ) → length bs ≡ 2 * n → length (words_of bs) ≡ n
 unfolding words_of

@@ -2,14 +2,13 @@
 -- `split_in_shape`, `join_below`: a key in range has such an entry, and such an entry a key in range.
 -- Assumes nothing.
 use Rattle.std.specs.Prelude.{ℕ, ◌+◌, ◌-◌, ◌≤◌, ◌<◌, ◌≡◌}
-use native.Mathlib.Omega.{arith}
-use Rattle.std.proofs.Common.{div-add-mod', div-lt_iff_lt-mul}
+use Rattle.std.proofs.Common.{arith, div-add-mod', div-lt_iff_lt-mul}
 use Rattle.std.proofs.Math.Nat.{mod-lt, add-sub_cancel}
 use Rattle.std.proofs.Math.Arith.{digits_div, digits_mod, digits_lt}
 use Rattle.rules.specs.declared.Shape.{Shape}
 use Rattle.rules.specs.Shape.{homes, remainders, keys}
 use Rattle.rules.specs.Entry.{Entry, place_of_home, home_of_place, home_of, remainder_of, split, join}
-use Rattle.table_words.specs.Range.{InRange, some_remainders, keys_are, keys_high}
+use Rattle.table_words.specs.Range.{InRange, some_remainders, homes_high, remainders_high, keys_are, keys_high}
 
 module _ (sh : Shape) (key : ℕ) where
   pub remainder_below : remainder_of sh key < remainders sh
@@ -52,3 +51,13 @@ module _ (sh : Shape) (e : Entry) (i : InShape sh e) where
 -- so a key that is joined fits 32 bits
 pub join_fits : (sh : Shape) (e : Entry) → InRange sh → InShape sh e → join sh e < 4294967296
 join_fits sh e range i = omega (arith, join_below sh e i, keys_high sh range)
+
+-- and so does the place of a key's home; its remainder fits 16 bits
+pub home_fits : (sh : Shape) (key : ℕ) → InRange sh → key < keys sh → home_of sh key < 4294967295
+home_fits sh key range h = omega (arith, home_below sh key h, homes_high sh range)
+
+pub remainder_fits : (sh : Shape) (key : ℕ) → InRange sh → remainder_of sh key < 65536
+remainder_fits sh key range = omega (arith, remainder_below sh key, remainders_high sh range)
+
+-- what `remainder_of` goes by
+pub ruleset remainder_laws = (remainder_fits, some_remainders)

@@ -5,5 +5,5 @@ ghost use Rattle.rules.specs.Lists.{bit_of};
 pub fn bit_of(b: bool) -> u32
     ensures { (result ≡ bit_of b) × (result < 2) }
 {
-    if b { 1 } else { 0 }
+    u32::from(b)
 }

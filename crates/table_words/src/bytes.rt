@@ -14,39 +14,33 @@ fn low_byte(p: Place) -> usize
     2 * (p.0 as usize)
 }
 
-fn wide(b: u8) -> u16
-    ensures { (result ≡ b) × (result < 256) }
-{
-    b as u16
-}
-
+#[tactic(auto, using(crate::specs::Layout::word_at))]
 pub fn word_at(table: &[u8], p: Place) -> u16
     requires { 2 * p.0 + 1 < length table.now }
     ensures { word_of result ≡ at (words_of table.now) p.0 }
 {
     let i = low_byte(p);
-    let low = wide(table[i]);
-    let high = wide(table[i + 1]);
-    low + 256 * high
+    u16::from_le_bytes([table[i], table[i + 1]])
 }
 
+#[tactic(auto, using(crate::specs::Layout::word_set))]
 pub fn set_word(table: &mut [u8], p: Place, w: u16)
     requires { 2 * p.0 + 1 < length table.old }
     ensures { words_of table.new ≡ set (words_of table.old) p.0 (word_of w) }
 {
     let i = low_byte(p);
-    table[i] = (w % 256) as u8;
-    table[i + 1] = (w / 256) as u8;
+    let [low, high] = w.to_le_bytes();
+    table[i] = low;
+    table[i + 1] = high;
 }
 
 // The first n bytes become zero.
+#[tactic(auto, using(std::proofs::lemmas::List::Edits::fill_more))]
 pub fn clear(table: &mut [u8], n: usize)
     requires { n ≤ length table.old }
     ensures { table.new ≡ replicate n 0 ++ drop n table.old }
 {
-    let mut i = 0;
-    while i < n {
-        table[i] = 0;
-        i += 1;
+    for byte in &mut table[..n] {
+        *byte = 0;
     }
 }

@@ -7,4 +7,6 @@ pub mod bytes;
 pub mod key;
 pub mod place;
 pub mod shape;
+pub mod side;
+pub mod table;
 pub mod word;

@@ -3,13 +3,14 @@
 ghost use Rattle.std.specs.Prelude.{◌≡◌, ◌+◌, ◌-◌, ◌<◌};
 ghost use Rattle.rules.specs.Entry.{place_of_home, home_of_place};
 
-#[derive(Clone, Copy)]
+#[derive(Clone, Copy, Debug, PartialEq, Eq, PartialOrd, Ord)]
 pub struct Home(pub u32);
 
-#[derive(Clone, Copy)]
+#[derive(Clone, Copy, Debug, PartialEq, Eq, PartialOrd, Ord)]
 pub struct Place(pub u32);
 
 // The one conversion: it adds the guard.
+#[tactic(auto, unfolding(rules::specs::Entry::place_of_home))]
 pub fn place_of_home(home: Home) -> Place
     requires { home.0 < 4294967295 }
     ensures { result.0 ≡ place_of_home home.0 }
@@ -18,6 +19,7 @@ pub fn place_of_home(home: Home) -> Place
 }
 
 // Its way back: the guard is taken off.
+#[tactic(auto, unfolding(rules::specs::Entry::home_of_place))]
 pub fn home_of_place(p: Place) -> Home
     requires { 0 < p.0 }
     ensures { result.0 ≡ home_of_place p.0 }

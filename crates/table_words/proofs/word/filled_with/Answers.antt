@@ -1,6 +1,6 @@
 -- `with_remainder` meets its contract by the law of the changed fields.
 -- Assumes nothing.
-use native.Mathlib.Omega.{arith}
+use Rattle.std.proofs.Common.{arith}
 use Rattle.table_words.specs.Change.{filled_with_lem}
 use Rattle.table_words.proofs.word.filled_with.Goals as goal
 

@@ -1,6 +1,6 @@
 -- `with_lock` meets its contract by the law of the changed field.
 -- Assumes nothing.
-use native.Mathlib.Omega.{arith}
+use Rattle.std.proofs.Common.{arith}
 use Rattle.table_words.specs.Change.{with_lock_lem}
 use Rattle.table_words.proofs.word.with_lock.Goals as goal
 

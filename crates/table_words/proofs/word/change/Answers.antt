@@ -1,9 +1,0 @@
--- `change` meets its contract: bit 14.
--- Assumes nothing.
-use mathlib.Core.Path.{refl}
-use Rattle.rules.specs.Word.{word_of}
-use Rattle.table_words.proofs.word.change.Goals as goal
-
-pub returns : goal.returns
-unfolding word_of
-returns c = refl

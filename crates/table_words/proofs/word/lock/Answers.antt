@@ -1,9 +1,0 @@
--- `lock` meets its contract: bit 15.
--- Assumes nothing.
-use mathlib.Core.Path.{refl}
-use Rattle.rules.specs.Word.{word_of}
-use Rattle.table_words.proofs.word.lock.Goals as goal
-
-pub returns : goal.returns
-unfolding word_of
-returns c = refl
