@@ -1,7 +1,7 @@
 -- A whole table in two passes, for any words: `tidy`, each word held against the next one, and `even_gaps`, as many
 -- homes as groups at each gap; the laws of the two loops; both passes over a cluster and its gap, `fine_cluster`.
 -- Assumes nothing.
-use Rattle.std.specs.Prelude.{ℕ, zero, suc, ◌+◌, ◌-◌, ◌*◌, ◌≤◌, ◌<◌, ◌≡◌, Bool, ◌&&◌, ◌||◌, List, [], ◌∷◌, ◌++◌, ltb, eqb, length}
+use Rattle.std.specs.Prelude.{ℕ, zero, suc, ◌+◌, ◌-◌, ◌*◌, ◌≤◌, ◌<◌, ◌≡◌, Bool, cond, ◌&&◌, ◌||◌, List, [], ◌∷◌, ◌++◌, ltb, eqb, length, Result, Ok, Err}
 use Rattle.std.proofs.Math.Path.{refl}
 use Rattle.std.proofs.Common.{sym, ap, ◌∙◌, zero-add, add-zero, add_assoc, arith, lt-ltb, eqb-true, eq-eqb, ne_eqb}
 use Rattle.std.proofs.Math.Bool.{true, false, and-true, and-false, or-false, and_assoc, or_assoc}
@@ -9,11 +9,15 @@ use Rattle.std.specs.Int.Bits.{bit_or}
 use Rattle.std.proofs.Math.Seq.{slice}
 use Rattle.std.proofs.lemmas.Bool.{eqb-false}
 use Rattle.rules.specs.declared.Shape.{Shape}
+use Rattle.rules.specs.declared.Refusal.{Refusal}
+use Rattle.rules.specs.declared.Refusal.TheVariants.{Unsound, Locked}
 use Rattle.rules.specs.Lists.{bit_of, count, all, any}
 use Rattle.rules.specs.Word.{Word, word_of, is_void}
 use Rattle.rules.specs.Bytes.{words_of}
 use Rattle.rules.specs.Shape.{remainders}
 use Rattle.rules.specs.Table.{at, ends_in_change, rising, sound_run, sound, locked}
+use Rattle.rules.specs.Answer.{leaves, refuses, number_of_refusal}
+use Rattle.rules.specs.Listing.{list_in}
 use Rattle.table_words.specs.Range.{some_remainders}
 use Rattle.table_words.specs.All.{all_append}
 use Rattle.theory.specs.Dealt.{is_change, is_virgin, is_occupied, is_low, and_left, and_right}
@@ -22,7 +26,6 @@ use Rattle.table_cluster.specs.Run.{run_step, run_end}
 use Rattle.table_cluster.specs.Check.{rises, rises_to, rises_ends, over_low, over_lock, void_remainder}
 use Rattle.table_list.specs.declared.check.Order.{Order}
 use Rattle.table_list.specs.declared.check.Gaps.{Gaps}
-use Rattle.table_list.specs.declared.check.Check.{Check}
 
 -- a word before another: it ends its group or its remainder is below the other's, or it is void
 unfoldable pub stands : Word → Word → Bool
@@ -48,8 +51,23 @@ order_of sh ws = record { tidy = tidy ws && all (is_low (remainders sh)) ws; loc
 unfoldable pub gaps_of : List Word → Gaps
 gaps_of ws = record { even = even_gaps 0 0 ws; keys = count is_occupied ws }
 
-unfoldable pub check_of : Shape → List Word → Check
-check_of sh ws = record { sound = sound sh ws; locked = locked ws; keys = count is_occupied ws }
+-- the number of keys, or what the table is refused by: soundness comes before the locks
+unfoldable pub check_of : Shape → List Word → Result ℕ Refusal
+check_of sh ws = cond (sound sh ws) (cond (locked ws) (Err Locked) (Ok (count is_occupied ws))) (Err Unsound)
+
+-- a table that passes is sound and not locked, and the number is that of its occupied words
+pub check_good :
+    (sh : Shape) (ws : List Word) (n : ℕ) → Ok n ≡ check_of sh ws →
+    (sound sh ws ≡ true) × (locked ws ≡ false) × (n ≡ count is_occupied ws)
+unfolding check_of
+check_good sh ws n e = grind arith
+
+-- a table that does not pass is not listed
+pub check_refused :
+    (sh : Shape) (ws : List Word) (slots : List ℕ) (n : Refusal) → Err n ≡ check_of sh ws →
+    leaves (refuses (number_of_refusal n)) slots ≡ list_in sh ws slots
+unfolding check_of list_in
+check_refused sh ws slots n e = grind arith
 
 -- ---- the first pass: what is known of the words behind, and the words ws to come
 unfoldable pub ordered : Shape → Bool → ℕ → List Word → Order

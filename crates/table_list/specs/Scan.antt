@@ -1,20 +1,20 @@
--- The searches for the next occupied place and for the next home, from place to place: `key_from`, `home_from`.
+-- The search for the next place whose word is so, `first_from`: an occupied one, `key_from`, or a home, `home_from`.
 -- One turn of the listing: the next occupied word has the next entry, `next_entry`, and the others stay, `next_left`.
 -- Assumes nothing.
 use Rattle.std.specs.Prelude.{ℕ, zero, suc, ◌+◌, ◌-◌, ◌*◌, ◌≤◌, ◌<◌, ◌≡◌, refl, Bool, true, false, cond, List, [], ◌∷◌, length, ltb}
 use Rattle.std.proofs.Common.{sym, ap, ◌∙◌, add-zero, arith, take_all, ltb-true, ltb-false}
 use Rattle.std.proofs.Math.Numerals.{add-one}
-use Rattle.std.proofs.Math.Seq.{slice}
+use Rattle.std.proofs.Math.Seq.{slice, length-slice}
 use Rattle.rules.specs.Lists.{bit_of}
 use Rattle.rules.specs.Word.{Word, word_of}
 use Rattle.rules.specs.Bytes.{words_of}
 use Rattle.rules.specs.Entry.{Entry}
-use Rattle.rules.specs.Table.{at, front, due}
+use Rattle.rules.specs.Table.{at, virgin_places, front, due}
 use Rattle.table_words.specs.Layout.{words_length}
-use Rattle.theory.specs.Dealt.{entry_path}
+use Rattle.theory.specs.Dealt.{is_occupied, is_virgin, entry_path}
 use Rattle.table_cluster.specs.Run.{run_step, run_end}
 use Rattle.table_cluster.specs.Scan.{words_count}
-use Rattle.table_cluster.specs.Homes.{homes_from, first_of, home_passed, home_met, home_end, Due, due_home}
+use Rattle.table_cluster.specs.Homes.{homes_from, first_of, home_end, Due, due_home}
 use Rattle.table_list.specs.Queue.{deal_occupied, queue_taken, queue_free}
 
 -- all the words of a table
@@ -22,74 +22,120 @@ pub whole_table : (bs : List ℕ) (r n : ℕ) → length bs ≡ 2 * n → r ≡ 
 whole_table bs r n size end = take_all r (words_of bs) (omega (arith, words_length bs n size))
 
 -- ---- the next one
--- the first occupied place from place p on, where ws are the words from there on: the end if there is none
-unfoldable pub next_occupied : ℕ → List Word → ℕ
-next_occupied p [] = p
-next_occupied p (w ∷ ws) = cond w.occupied p (next_occupied (suc p) ws)
+-- the first place from place p on whose word is so, where ws are the words from there on: the end if there is none
+unfoldable pub next_that : (Word → Bool) → ℕ → List Word → ℕ
+next_that is p [] = p
+next_that is p (w ∷ ws) = cond (is w) p (next_that is (suc p) ws)
 
-abbrev pub occupied_from : List Word → ℕ → ℕ → ℕ
-occupied_from ws r p = next_occupied p (slice p r ws)
+abbrev pub that_from : (Word → Bool) → List Word → ℕ → ℕ → ℕ
+that_from is ws r p = next_that is p (slice p r ws)
 
-module _ (bs : List ℕ) (i r : ℕ) where
-  next_passed :
-      i < r → 2 * r ≤ length bs → (at (words_of bs) i).occupied ≡ false →
-      occupied_from (words_of bs) r (i + 1) ≡ occupied_from (words_of bs) r i
-  unfolding next_occupied
-  next_passed lt within e = rw (run_step bs i r lt within, e, add-one i)
+module _ (is : Word → Bool) (bs : List ℕ) (i r : ℕ) where
+  that_passed :
+      i < r → 2 * r ≤ length bs → is (at (words_of bs) i) ≡ false →
+      that_from is (words_of bs) r (i + 1) ≡ that_from is (words_of bs) r i
+  unfolding next_that
+  that_passed lt within e = rw (run_step bs i r lt within, e, add-one i)
 
-  next_met :
-      i < r → 2 * r ≤ length bs → (at (words_of bs) i).occupied ≡ true → occupied_from (words_of bs) r i ≡ i
-  unfolding next_occupied
-  next_met lt within e = rw (run_step bs i r lt within, e)
+  that_met : i < r → 2 * r ≤ length bs → is (at (words_of bs) i) ≡ true → that_from is (words_of bs) r i ≡ i
+  unfolding next_that
+  that_met lt within e = rw (run_step bs i r lt within, e)
 
-  next_end : r ≤ i → occupied_from (words_of bs) r i ≡ i
-  unfolding next_occupied
-  next_end h = rw (run_end bs i r h)
+  that_end : r ≤ i → that_from is (words_of bs) r i ≡ i
+  unfolding next_that
+  that_end h = rw (run_end bs i r h)
 
--- ---- the searches in a whole table: for the next occupied place and for the next home, where there is one
-abbrev pub key_from : List Word → ℕ → ℕ
-key_from ws p = occupied_from ws (length ws) p
+-- ---- the search in a whole table, for a place that there is
+abbrev pub first_from : (Word → Bool) → List Word → ℕ → ℕ
+first_from is ws p = that_from is ws (length ws) p
 
-abbrev pub home_from : List Word → ℕ → ℕ
-home_from ws p = first_of (length ws) (homes_from ws (length ws) p)
+-- the tests, which are of numbers, tell of each word whether it is so
+abbrev pub Tells : (ℕ → Bool → Type 0) → (Word → Bool) → Type 0
+Tells test is = (w : ℕ) (b : Bool) → w < 65536 → test w b → b ≡ is (word_of w)
 
-module _ (bs : List ℕ) where
+-- what is tested is found from place p on
+pub record Found (test : ℕ → Bool → Type 0) (ws : List Word) (p : ℕ) : Type 0 where
+  pub is : Word → Bool
+  pub told : Tells test is
+  pub ahead : first_from is ws p < length ws
+
+-- what is found from place i on is what is found from place p on
+abbrev pub SameFound : (ℕ → Bool → Type 0) → List ℕ → ℕ → ℕ → Type 0
+SameFound test bs i p =
+    (is : Word → Bool) → Tells test is → first_from is (words_of bs) i ≡ first_from is (words_of bs) p
+
+module _ (is : Word → Bool) (bs : List ℕ) (i : ℕ) where
   abbrev all_words : ℕ
   all_words = length (words_of bs)
 
   within : 2 * all_words ≤ length bs
   within = omega (arith, words_count bs)
 
-  module _ (i : ℕ) where
-    -- a place from which one is found is inside the table
-    not_past : (x : ℕ) → (all_words ≤ i → all_words ≤ x) → x < all_words → i < all_words
-    not_past x past some = go (ltb i all_words) refl
-      where
-        go : (b : Bool) → ltb i all_words ≡ b → i < all_words
-        go true e = ltb-true i all_words e
-        go false e = absurd (omega (arith, past (ltb-false i all_words e)))
+  -- a place from which one is found is inside the table
+  pub first_ahead : first_from is (words_of bs) i < all_words → i < all_words
+  first_ahead some = go (ltb i all_words) refl
+    where
+      go : (b : Bool) → ltb i all_words ≡ b → i < all_words
+      go true e = ltb-true i all_words e
+      go false e =
+          let end = ltb-false i all_words e in
+          absurd (omega (arith, that_end is bs i all_words end))
 
-    pub key_ahead : key_from (words_of bs) i < all_words → i < all_words
-    key_ahead = not_past (key_from (words_of bs) i) (λ end. omega (arith, next_end bs i all_words end))
+  pub first_passed :
+      i < all_words → is (at (words_of bs) i) ≡ false →
+      first_from is (words_of bs) (i + 1) ≡ first_from is (words_of bs) i
+  first_passed inside e = that_passed is bs i all_words inside within e
 
-    pub home_ahead : home_from (words_of bs) i < all_words → i < all_words
-    home_ahead =
-        not_past
-        (home_from (words_of bs) i)
-        (λ end. omega (arith, ap (first_of all_words) (home_end bs i all_words end)))
+  pub first_met : i < all_words → is (at (words_of bs) i) ≡ true → first_from is (words_of bs) i ≡ i
+  first_met inside e = that_met is bs i all_words inside within e
 
-    module _ (inside : i < all_words) where
-      pub key_passed : (at (words_of bs) i).occupied ≡ false → key_from (words_of bs) (i + 1) ≡ key_from (words_of bs) i
-      key_passed e = next_passed bs i all_words inside within e
+module _ (test : ℕ → Bool → Type 0) (bs : List ℕ) (i p : ℕ) (same : SameFound test bs i p) where
+  pub found_inside : Found test (words_of bs) p → i < length (words_of bs)
+  found_inside found = first_ahead found.is bs i (omega (arith, same found.is found.told, found.ahead))
 
-      pub key_met : (at (words_of bs) i).occupied ≡ true → key_from (words_of bs) i ≡ i
-      key_met e = next_met bs i all_words inside within e
+  -- the word w at place i is tested
+  module _ (inside : i < length (words_of bs)) (w : ℕ) (low : w < 65536) (word : word_of w ≡ at (words_of bs) i) where
+    pub found_passed : test w false → SameFound test bs (i + 1) p
+    found_passed failed =
+        λ is told. first_passed is bs i inside (rw word at (sym (told w false low failed))) ∙ same is told
 
-      pub home_next : (at (words_of bs) i).virgin ≡ false → home_from (words_of bs) (i + 1) ≡ home_from (words_of bs) i
-      home_next e = ap (first_of all_words) (home_passed bs i all_words inside within e)
+    pub found_met : test w true → (is : Word → Bool) → Tells test is → i ≡ first_from is (words_of bs) p
+    found_met held =
+        λ is told. sym (first_met is bs i inside (rw word at (sym (told w true low held)))) ∙ same is told
 
-      pub home_here : (at (words_of bs) i).virgin ≡ true → home_from (words_of bs) i ≡ i
-      home_here e = ap (first_of all_words) (home_met bs i all_words inside within e)
+-- the next occupied place, and the next home
+abbrev pub key_from : List Word → ℕ → ℕ
+key_from ws p = first_from is_occupied ws p
+
+abbrev pub home_from : List Word → ℕ → ℕ
+home_from ws p = first_of (length ws) (homes_from ws (length ws) p)
+
+-- the first of the homes is the first place with a virgin bit
+first_home : (r p : ℕ) (ws : List Word) → p + length ws ≡ r → first_of r (virgin_places p ws) ≡ next_that is_virgin p ws
+unfolding next_that virgin_places
+first_home r p [] size = omega arith
+first_home r p (w ∷ ws) size = go w.virgin (first_home r (suc p) ws (omega arith))
+  where
+    go :
+        (b : Bool) → first_of r (virgin_places (suc p) ws) ≡ next_that is_virgin (suc p) ws →
+        first_of r (cond b (p ∷ virgin_places (suc p) ws) (virgin_places (suc p) ws))
+        ≡ cond b p (next_that is_virgin (suc p) ws)
+    go true rest = refl
+    go false rest = rest
+
+pub home_is :
+    (bs : List ℕ) (p : ℕ) → home_from (words_of bs) p < length (words_of bs) →
+    first_from is_virgin (words_of bs) p ≡ home_from (words_of bs) p
+home_is bs p some = go (ltb p (length (words_of bs))) refl
+  where
+    go : (b : Bool) → ltb p (length (words_of bs)) ≡ b → first_from is_virgin (words_of bs) p ≡ home_from (words_of bs) p
+    go true e =
+        let r = length (words_of bs) in
+        let lt = ltb-true p r e in
+        sym (first_home r p (slice p r (words_of bs)) (omega (arith, length-slice p r (words_of bs) (omega arith))))
+    go false e =
+        let r = length (words_of bs) in
+        absurd (omega (arith, ap (first_of r) (home_end bs p r (ltb-false p r e))))
 
 -- h is the home of the group that the word w is in, and where w ends it there is a next home
 pub record Homed (bs : List ℕ) (h w : ℕ) : Type 0 where
@@ -105,27 +151,27 @@ record Met (bs : List ℕ) (r : ℕ) (hs : List ℕ) (i q : ℕ) : Type 0 where
 met :
     (bs : List ℕ) (r : ℕ) (hs : List ℕ) (i : ℕ) →
     2 * r ≤ length bs →
-    0 < length (deal_occupied hs (slice i r (words_of bs))) → Met bs r hs i (occupied_from (words_of bs) r i)
+    0 < length (deal_occupied hs (slice i r (words_of bs))) → Met bs r hs i (that_from is_occupied (words_of bs) r i)
 unfolding deal_occupied
 met bs r hs i within = go (r - i) i refl
   where
     here :
         (i : ℕ) → i < r → (b : Bool) → (at (words_of bs) i).occupied ≡ b →
         (0 < length (deal_occupied hs (slice (i + 1) r (words_of bs))) →
-        Met bs r hs (i + 1) (occupied_from (words_of bs) r (i + 1))) →
-        0 < length (deal_occupied hs (slice i r (words_of bs))) → Met bs r hs i (occupied_from (words_of bs) r i)
+        Met bs r hs (i + 1) (that_from is_occupied (words_of bs) r (i + 1))) →
+        0 < length (deal_occupied hs (slice i r (words_of bs))) → Met bs r hs i (that_from is_occupied (words_of bs) r i)
     here i lt true e rest some =
-        rw (next_met bs i r lt within e) (record { inside = lt; taken = e; same = refl })
+        rw (that_met is_occupied bs i r lt within e) (record { inside = lt; taken = e; same = refl })
     here i lt false e rest some =
         let passed = ap (deal_occupied hs) (run_step bs i r lt within)
         ∙ queue_free hs (at (words_of bs) i) (slice (i + 1) r (words_of bs)) e in
         let later = rest (rw passed at some) in
-        rw (← next_passed bs i r lt within e)
+        rw (← that_passed is_occupied bs i r lt within e)
         (record { inside = later.inside; taken = later.taken; same = later.same ∙ sym passed })
 
     go :
         (n i : ℕ) → r - i ≡ n →
-        0 < length (deal_occupied hs (slice i r (words_of bs))) → Met bs r hs i (occupied_from (words_of bs) r i)
+        0 < length (deal_occupied hs (slice i r (words_of bs))) → Met bs r hs i (that_from is_occupied (words_of bs) r i)
     go zero i e some = absurd (omega (arith, rw (run_end bs i r (omega arith)) at some))
     go (suc n) i e some = here i (omega arith) (at (words_of bs) i).occupied refl (go n (i + 1) (omega arith)) some
 
@@ -139,7 +185,7 @@ module _ (bs : List ℕ) (r v i : ℕ) (e : Entry) (es : List Entry)
     hs = homes_from (words_of bs) r v
 
     abbrev q : ℕ
-    q = occupied_from (words_of bs) r i
+    q = that_from is_occupied (words_of bs) r i
 
     abbrev u : Word
     u = at (words_of bs) q

@@ -3,7 +3,7 @@
 -- Assumes nothing.
 use Rattle.std.specs.Prelude.{ℕ, zero, suc, ◌+◌, ◌*◌, ◌≤◌, ◌<◌, ◌≡◌, refl, false, take}
 use Rattle.std.proofs.Math.Path.{sym, ap, ap₂}
-use Rattle.std.proofs.Common.{◌∙◌, true≢false, add-one, arith, take-suc, drop-cons, length-take-le}
+use Rattle.std.proofs.Common.{◌∙◌, true≢false, add-one, arith, take-suc, drop-cons, length-take-le, drop_of_length-le, append-nil}
 use Rattle.std.proofs.Math.Bool.{true}
 use mathlib.Core.List.{List, [], ◌∷◌, ◌++◌, append_assoc}
 use Rattle.std.proofs.Math.ListN.{length, get_or, set, drop, length-map, length-set, get_or-map}
@@ -76,6 +76,13 @@ module _ {sh : Shape} {bs : List ℕ} {n : ℕ} {slots₀ : List ℕ} (given : L
   abbrev r : ℕ
   r = length (words_of bs)
 
+  -- the slots that are written
+  abbrev ts : List ℕ
+  ts = take n slots₀
+
+  ts_length : length ts ≡ n
+  ts_length = length-take-le n slots₀ given.room
+
   low : remainders sh ≤ 4096
   low = remainders_high sh given.range
 
@@ -106,7 +113,7 @@ module _ {sh : Shape} {bs : List ℕ} {n : ℕ} {slots₀ : List ℕ} (given : L
       (home_passed bs 0 r some within (ap is_virgin (void_unlock _ void)))
       ∙ rw (whole_table bs r (places sh) given.size sized) (table_queue sh low whole)
 
-  pub write_begins : (w : ℕ) → (word_of w).change ≡ true → Writing sh bs slots₀ 0 0 w 0 slots₀
+  pub write_begins : (w : ℕ) → (word_of w).change ≡ true → Writing sh bs ts 0 0 w 0 ts
   write_begins w ends =
       record {
         reached = omega arith;
@@ -116,16 +123,20 @@ module _ {sh : Shape} {bs : List ℕ} {n : ℕ} {slots₀ : List ℕ} (given : L
         here = λ goes. absurd (true≢false (sym ends ∙ goes));
       }
 
+  -- each of the first n slots is written
   pub write_ends :
       {h p w k : ℕ} {slots : List ℕ} →
-      Writing sh bs slots₀ h p w k slots → n ≤ k → slots ≡ at_front (list sh (words_of bs)) slots₀
+      Writing sh bs ts h p w k slots → length ts ≤ k →
+      slots ++ drop n slots₀ ≡ at_front (list sh (words_of bs)) slots₀
   unfolding at_front
   write_ends {k = k} s done =
-      let all_keys : k ≡ length (list sh (words_of bs)) = omega (arith, s.reached) in
-      s.written
-      ∙ rw (all_keys, take-length (list sh (words_of bs)))
+      let all_keys : k ≡ length (list sh (words_of bs)) = omega (arith, s.reached, ts_length) in
+      ap₂ ◌++◌
+      (s.written
+      ∙ rw (drop_of_length-le ts done, all_keys, take-length (list sh (words_of bs)), append-nil))
+      (ap (λ (m : ℕ). drop m slots₀) given.keys)
 
-  module _ {h p w k : ℕ} {slots : List ℕ} (s : Writing sh bs slots₀ h p w k slots) (more : k < n) where
+  module _ {h p w k : ℕ} {slots : List ℕ} (s : Writing sh bs ts h p w k slots) (more : k < length ts) where
     -- the entry that is next, and those after it
     abbrev e : Entry
     e = get_or (entries (words_of bs)) k no_entry
@@ -138,7 +149,7 @@ module _ {sh : Shape} {bs : List ℕ} {n : ℕ} {slots₀ : List ℕ} (given : L
 
     among : k < length (entries (words_of bs))
     unfolding list
-    among = omega (arith, length-map (entries (words_of bs)) (join sh))
+    among = omega (arith, length-map (entries (words_of bs)) (join sh), ts_length)
 
     left : deal_occupied (homes_from (words_of bs) r v) (slice (p + 1) r (words_of bs)) ≡ e ∷ es
     left = s.left ∙ drop-cons (entries (words_of bs)) k no_entry among
@@ -175,15 +186,15 @@ module _ {sh : Shape} {bs : List ℕ} {n : ℕ} {slots₀ : List ℕ} (given : L
         pub write_on :
             (key : ℕ) →
             key ≡ join sh (record { home_place = g; remainder = y }) →
-            Writing sh bs slots₀ g q x (k + 1) (set slots k key)
+            Writing sh bs ts g q x (k + 1) (set slots k key)
         unfolding list
         write_on key joined =
             record {
-              reached = omega arith;
+              reached = omega (arith, ts_length);
               size = length-set slots k key ∙ s.size;
               written =
                   ap₂ (λ (t : List ℕ) (n : ℕ). set t k n) s.written key_is
-                  ∙ front_step (list sh (words_of bs)) slots₀ k (join sh no_entry) (omega arith) (omega arith);
+                  ∙ front_step (list sh (words_of bs)) ts k (join sh no_entry) (omega (arith, ts_length)) more;
               left =
                   rw (home_at, found, there) (next_left bs r v (p + 1) e es within left shaped.home_low)
                   ∙ ap (λ (n : ℕ). drop n (entries (words_of bs))) (sym (add-one k));

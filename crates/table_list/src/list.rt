@@ -1,48 +1,35 @@
 // List (01, Answers and their numbers): the whole table is checked before a slot is written.
-ghost use Rattle.std.specs.Prelude.{◌≡◌, ◌*◌, length};
+ghost use Rattle.std.specs.Prelude.{◌≡◌};
 ghost use Rattle.rules.specs.Bytes.{words_of};
-ghost use Rattle.rules.specs.Shape.{shape_of, places};
-ghost use Rattle.rules.specs.Answer.{list_says, leaves};
+ghost use Rattle.rules.specs.Shape.{shape_of};
+ghost use Rattle.rules.specs.Answer.{number_says, leaves};
 ghost use Rattle.rules.specs.Listing.{list_in, listing};
-ghost use Rattle.table_words.specs.Range.{InRange};
 
 use crate::check::check_table;
 use crate::keys::write_keys;
-use rules::{ListAnswer, Refusal, Shape};
-use table_words::shape::{good_table, shape_of};
+use rules::Refusal;
+use table_words::table::Table;
 
-fn list_in(sh: Shape, table: &[u8], slots: &mut [u32]) -> ListAnswer
-    requires fact_1 { InRange sh }
-    requires fact_2 { length table.now ≡ 2 * places sh }
-    ensures { leaves (list_says result) slots.new
-        ≡ list_in sh (words_of table.now) slots.old }
+#[tactic(auto, using(crate::specs::Check::check_refused))]
+fn list_in(t: Table, slots: &mut [u32]) -> Result<usize, Refusal>
+    ensures { leaves (number_says result) slots.new
+        ≡ list_in t.entry.sh.shape (words_of t.entry.bytes.now) slots.old }
 {
-    let check = check_table(sh, table);
-    if check.sound {
-        if check.locked {
-            ListAnswer::Refused(Refusal::Locked)
-        } else {
-            let n = check.keys as usize;
-            if n <= slots.len() {
-                write_keys(sh, table, n, slots);
-                ListAnswer::Listed(n)
-            } else {
-                ListAnswer::Refused(Refusal::TooFewSlots)
-            }
-        }
+    let n = check_table(t)? as usize;
+    if n <= slots.len() {
+        write_keys(t, n, slots);
+        Ok(n)
     } else {
-        ListAnswer::Refused(Refusal::Unsound)
+        Err(Refusal::TooFewSlots)
     }
 }
 
 // The answer has the paper's number and count; the slots are left as they were where the call is refused.
-pub fn list(m: u32, r: u32, table: &[u8], slots: &mut [u32]) -> ListAnswer
-    ensures { leaves (list_says result) slots.new
+#[tactic(auto, unfolding(rules::specs::Listing::listing))]
+pub fn list(m: u32, r: u32, table: &[u8], slots: &mut [u32]) -> Result<usize, Refusal>
+    ensures { leaves (number_says result) slots.new
         ≡ listing (shape_of m r) table.now slots.old }
 {
-    if good_table(m, r, table.len()) {
-        list_in(shape_of(m, r), table, slots)
-    } else {
-        ListAnswer::Refused(Refusal::BadShape)
-    }
+    let t = Table::lent(m, r, table)?;
+    list_in(t, slots)
 }

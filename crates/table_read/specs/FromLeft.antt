@@ -24,6 +24,7 @@ use Rattle.table_read.specs.Read.{read_of, after, unseen, read_whole}
 use Rattle.table_read.specs.Group.{places_of, words_from, passed, more, read_seen, group_read, Below, Above, Passed}
 use Rattle.table_read.specs.Group.{virgins_below, virgins_above, pass_groups, pass_later, read_group, split_run}
 use Rattle.table_read.specs.Group.{passed_front, passed_beyond, passed_left, group_front, group_there}
+use Rattle.table_read.specs.declared.mark.Mark.TheVariants.{NewGroup}
 use Rattle.table_read.specs.declared.read.Read.{Read}
 use Rattle.table_cluster.specs.declared.gaps.End.{End}
 
@@ -31,59 +32,59 @@ use Rattle.table_cluster.specs.declared.gaps.End.{End}
 abbrev pub all_but : ℕ → List Word → ℕ
 all_but k ws = passed ws (count is_change ws - k)
 
--- ---- groups passed over to the left, from place to place
-module _ (bs : List ℕ) (a i : ℕ) (from : a ≤ i) (within : 2 * (i + 1) ≤ length bs) where
-  one_more : slice a (i + 1) (words_of bs) ≡ slice a i (words_of bs) ++ (at (words_of bs) i ∷ [])
-  one_more = run_last bs a i from (omega arith)
+-- ---- groups passed over to the left, from place to place: the word at place i - 1 is looked at
+module _ (bs : List ℕ) (a i : ℕ) (from : a < i) (within : 2 * i ≤ length bs) where
+  abbrev us : List Word
+  us = slice a (i - 1) (words_of bs)
 
-  module _ (w x k : ℕ) (word : word_of w ≡ at (words_of bs) i) (bit : x ≡ bit_of (word_of w).change) where
-    one_counted : count is_change (slice a (i + 1) (words_of bs)) ≡ count is_change (slice a i (words_of bs)) + x
+  one_more : slice a i (words_of bs) ≡ us ++ (at (words_of bs) (i - 1) ∷ [])
+  one_more = let here : i - 1 + 1 ≡ i = omega arith in rw here at (run_last bs a (i - 1) (omega arith) (omega arith))
+
+  module _ (w x k : ℕ) (word : word_of w ≡ at (words_of bs) (i - 1)) (bit : x ≡ bit_of (word_of w).change) where
+    one_counted : count is_change (slice a i (words_of bs)) ≡ count is_change us + x
     unfolding count
     one_counted =
         ap (count is_change) one_more
-        ∙ count_append is_change (slice a i (words_of bs)) (at (words_of bs) i ∷ [])
+        ∙ count_append is_change us (at (words_of bs) (i - 1) ∷ [])
         ∙ rw (← word) (omega (arith, bit))
 
     pub back_on :
-        x ≤ k → k ≤ count is_change (slice a (i + 1) (words_of bs)) →
-        (k - x ≤ count is_change (slice a i (words_of bs)))
-        × (all_but (k - x) (slice a i (words_of bs)) ≡ all_but k (slice a (i + 1) (words_of bs)))
-    back_on few left =
-        let us = slice a i (words_of bs) in
-        let same : count is_change (slice a (i + 1) (words_of bs)) - k ≡ count is_change us - (k - x) =
+        (j : ℕ) → j + x ≡ k → k ≤ count is_change (slice a i (words_of bs)) →
+        (j ≤ count is_change us) × (all_but j us ≡ all_but k (slice a i (words_of bs)))
+    back_on j few left =
+        let same : count is_change (slice a i (words_of bs)) - k ≡ count is_change us - j =
         omega (arith, one_counted) in (
           omega (arith, one_counted),
           sym
               (ap₂ passed one_more same
-              ∙ passed_front us (at (words_of bs) i ∷ []) (count is_change us - (k - x)) (omega arith)),
+              ∙ passed_front us (at (words_of bs) (i - 1) ∷ []) (count is_change us - j) (omega arith)),
         )
 
-    pub back_stop : k < x → i + 1 ≡ a + all_but k (slice a (i + 1) (words_of bs))
+    pub back_stop : k < x → i ≡ a + all_but k (slice a i (words_of bs))
     unfolding passed
     back_stop less = go (word_of w).change refl
       where
-        size : a + length (slice a i (words_of bs)) ≡ i
-        size = omega (arith, length-slice a i (words_of bs) (omega (arith, words_count bs)))
+        size : a + length us ≡ i - 1
+        size = omega (arith, length-slice a (i - 1) (words_of bs) (omega (arith, words_count bs)))
 
-        go : (b : Bool) → (word_of w).change ≡ b → i + 1 ≡ a + all_but k (slice a (i + 1) (words_of bs))
+        go : (b : Bool) → (word_of w).change ≡ b → i ≡ a + all_but k (slice a i (words_of bs))
         go false c = absurd (omega (arith, bit, ap bit_of c))
         go true c =
-            let us = slice a i (words_of bs) in
             let one : x ≡ 1 = bit ∙ ap bit_of c in
-            let all : count is_change (slice a (i + 1) (words_of bs)) - k ≡ count is_change us + 1 =
+            let all : count is_change (slice a i (words_of bs)) - k ≡ count is_change us + 1 =
             omega (arith, one, one_counted) in
-            let ended : passed (at (words_of bs) i ∷ []) 1 ≡ 1 = refl in
+            let ended : passed (at (words_of bs) (i - 1) ∷ []) 1 ≡ 1 = refl in
             omega (
               arith,
               size,
               ended,
               ap₂ passed one_more all,
-              passed_beyond us (at (words_of bs) i ∷ []) 1 (count is_change us + 1) (omega arith) refl,
+              passed_beyond us (at (words_of bs) (i - 1) ∷ []) 1 (count is_change us + 1) (omega arith) refl,
             )
 
-pub back_end : (bs : List ℕ) (l i k : ℕ) → l ≤ i → i ≤ l → i + 1 ≡ l + 1 + all_but k (slice (l + 1) (i + 1) (words_of bs))
+pub back_end : (bs : List ℕ) (a i k : ℕ) → i ≤ a → all_but k (slice a i (words_of bs)) ≡ 0
 unfolding passed
-back_end bs l i k low high = rw (run_end bs (l + 1) (i + 1) (omega arith)) (omega arith)
+back_end bs a i k low = rw (run_end bs a i low) refl
 
 -- ---- the group of a home
 -- a left end, its bits counted up to the home, and a word for each group that is passed over or read
@@ -197,11 +198,11 @@ module _ {bs : List ℕ} {l p : ℕ} (e : Entry) (b : Begins bs l p e.home_place
 
   pub read_new :
       (at (words_of bs) e.home_place).virgin ≡ false →
-      record { held = false; smaller = n; mark = 2 } ≡ read_from bs l e
+      record { held = false; smaller = n; mark = NewGroup } ≡ read_from bs l e
   unfolding read_from
   read_new none =
       let all : n ≡ 0 + group_start bs l e.home_place = omega (arith, words_before) in
-      rw none (ap (λ (k : ℕ). record { held = false; smaller = k; mark = 2 }) all)
+      rw none (ap (λ (k : ℕ). record { held = false; smaller = k; mark = NewGroup }) all)
 
 module _ (e : Entry) (bs : List ℕ) (l r : ℕ) (after_l : l < e.home_place) (before_r : e.home_place < r)
     (within : 2 * r ≤ length bs) (small : r ≤ 4294967295) (housed : Housed (between (words_of bs) l r))

@@ -18,6 +18,7 @@ use Rattle.rules.specs.Table.{at, virgin_places, due, deal}
 use Rattle.theory.specs.Dealt.{is_change, ends_counted}
 use Rattle.table_cluster.specs.Run.{run_step, run_end}
 use Rattle.table_cluster.specs.Homes.{Owed, owed_next}
+use Rattle.table_read.specs.Mark.{kind}
 use Rattle.table_read.specs.Read.{entry, look, look_before, look_beyond, after, after_step_lem, after_end}
 use Rattle.table_read.specs.declared.read.Read.{Read}
 use Rattle.table_read.specs.declared.read.Seen.{Seen}
@@ -37,7 +38,7 @@ more n s = record { held = s.held; smaller = s.smaller + n; grouped = s.grouped;
 
 -- what was seen, as a read
 abbrev pub read_seen : Seen → Read
-read_seen s = record { held = s.held; smaller = s.smaller; mark = cond s.grouped (cond s.largest 1 0) 2 }
+read_seen s = record { held = s.held; smaller = s.smaller; mark = kind s.grouped s.largest }
 
 -- the words in front are the key's own group
 unfoldable pub group_read : Entry → Seen → List Word → Read

@@ -1,7 +1,7 @@
--- What a read gives, `read_of`, by the rules' `holds`, `smaller` and `mark_of`; and the same key by key:
+-- What a read gives, `read_of`, by the rules' `holds` and `smaller` and by `mark_kind`; and the same key by key:
 -- `look` takes one key, `after` is what a read gives after some were seen.
 -- Assumes nothing.
-use Rattle.std.specs.Prelude.{ℕ, ◌+◌, ◌≤◌, ◌<◌, ◌≡◌, true, false, not, cond, ◌&&◌, ◌||◌, List, [], ◌∷◌}
+use Rattle.std.specs.Prelude.{ℕ, ◌+◌, ◌≤◌, ◌<◌, ◌≡◌, true, false, not, ◌&&◌, ◌||◌, List, [], ◌∷◌}
 use Rattle.std.proofs.Math.Bool.{or-false, and-true, or_assoc, and_assoc, or_comm, and_comm}
 use Rattle.std.proofs.Math.Numerals.{add-one}
 use Rattle.std.proofs.Common.{zero-add, add_assoc, arith}
@@ -12,14 +12,15 @@ use Rattle.rules.specs.Lists.{bit_of, count, all, any}
 use Rattle.rules.specs.Bytes.{words_of}
 use Rattle.rules.specs.Entry.{Entry, same_home, same_entry, precedes}
 use Rattle.rules.specs.Table.{deal, entries_between}
-use Rattle.rules.specs.Lay.{holds, smaller, mark_of}
+use Rattle.rules.specs.Lay.{holds, smaller}
 use Rattle.table_words.specs.Number.{bit_small}
 use Rattle.table_cluster.specs.Homes.{homes_from}
+use Rattle.table_read.specs.Mark.{kind, mark_kind}
 use Rattle.table_read.specs.declared.read.Read.{Read}
 use Rattle.table_read.specs.declared.read.Seen.{Seen}
 
 unfoldable pub read_of : Entry → List Entry → Read
-read_of e es = record { held = holds e es; smaller = smaller e es; mark = mark_of e es }
+read_of e es = record { held = holds e es; smaller = smaller e es; mark = mark_kind e es }
 
 abbrev pub entry : ℕ → ℕ → Entry
 entry home_at remainder = record { home_place = home_at; remainder = remainder }
@@ -111,9 +112,8 @@ after e s es =
       held = s.held || holds e es;
       smaller = s.smaller + smaller e es;
       mark =
-          cond (s.grouped || any (same_home e) es)
-          (cond (s.largest && all (λ (f : Entry). not (same_home e f) || precedes f e) es) 1 0)
-          2;
+          kind (s.grouped || any (same_home e) es)
+          (s.largest && all (λ (f : Entry). not (same_home e f) || precedes f e) es);
     }
 
 -- nothing was seen
@@ -121,7 +121,7 @@ abbrev pub unseen : Seen
 unseen = record { held = false; smaller = 0; grouped = false; largest = true }
 
 after_start : (e : Entry) (es : List Entry) → after e unseen es ≡ read_of e es
-unfolding after read_of mark_of
+unfolding after read_of mark_kind
 after_start e es = rw (zero-add (smaller e es))
 
 pub after_step_lem : (e f : Entry) (s : Seen) (es : List Entry) → after e (look e f s) es ≡ after e s (f ∷ es)
@@ -143,7 +143,7 @@ after_step_lem e f s es =
 pub after_end :
     (e : Entry) (s : Seen) →
     after e s []
-    ≡ record { held = s.held; smaller = s.smaller; mark = cond s.grouped (cond s.largest 1 0) 2 }
+    ≡ record { held = s.held; smaller = s.smaller; mark = kind s.grouped s.largest }
 unfolding after holds smaller any all count
 after_end e s = rw (or-false s.held, add-zero s.smaller, or-false s.grouped, and-true s.largest)
 

@@ -2,4 +2,5 @@
 // work is linear in the cluster.
 #![tactic(auto)]
 
+pub mod mark;
 pub mod read;

@@ -5,24 +5,25 @@ ghost use Rattle.std.proofs.Math.Seq.{slice};
 ghost use Rattle.rules.specs.Lists.{count};
 ghost use Rattle.rules.specs.Bytes.{words_of};
 ghost use Rattle.theory.specs.Dealt.{is_change};
+ghost use Rattle.table_read.specs.Mark.{kind};
 ghost use Rattle.table_read.specs.Read as spec;
 ghost use Rattle.table_read.specs.Read.{entry, unseen};
 ghost use Rattle.table_read.specs.Group.{words_from, passed, more, read_seen, group_read};
 ghost use Rattle.table_read.specs.FromLeft.{all_but, LeftCounted, group_start, Begins, read_from};
 
+use crate::mark::Mark;
 use table_cluster::gaps::End;
 use table_words::bit::bit_of;
 use table_words::bytes::word_at;
 use table_words::place::{Place, left_of, places_between, right_of};
 use table_words::word::{change, remainder, virgin};
 
-// Is the key there, how many keys are smaller, and the mark: 2 if its group is new, 1 if it is larger than all of its
-// group, else 0.
+// Is the key there, how many keys are smaller, and the mark that it would get.
 #[derive(Clone, Copy)]
 pub struct Read {
     pub held: bool,
     pub smaller: u32,
-    pub mark: u8,
+    pub mark: Mark,
 }
 
 // What the keys passed so far tell: was the key among them, how many were smaller, was one of its group,
@@ -35,42 +36,41 @@ struct Seen {
     largest: bool,
 }
 
-// One more key of the group is seen, that of remainder y, where that of remainder x is looked for.
+// One more key of the group is seen, that of remainder y, where that of remainder x is looked for. A match on the order
+// of the two would cost a put three instructions more.
 fn look(seen: Seen, x: u16, y: u16) -> Seen
     requires { seen.smaller < 4294967295 }
     ensures { (home_at : ℕ) → result ≡ spec.look (entry home_at x) (entry home_at y) seen }
 {
     if y < x {
         Seen {
-            held: seen.held,
             smaller: seen.smaller + 1,
             grouped: true,
-            largest: seen.largest,
+            ..seen
         }
     } else if x < y {
         Seen {
-            held: seen.held,
-            smaller: seen.smaller,
             grouped: true,
             largest: false,
+            ..seen
         }
     } else {
         Seen {
             held: true,
-            smaller: seen.smaller,
             grouped: true,
             largest: false,
+            ..seen
         }
     }
 }
 
-fn mark_of(grouped: bool, largest: bool) -> u8
-    ensures { result ≡ cond grouped (cond largest 1 0) 2 }
+fn mark_of(grouped: bool, largest: bool) -> Mark
+    ensures { result ≡ kind grouped largest }
 {
-    if grouped {
-        if largest { 1 } else { 0 }
-    } else {
-        2
+    match (grouped, largest) {
+        (false, _) => Mark::NewGroup,
+        (true, true) => Mark::Last,
+        (true, false) => Mark::Within,
     }
 }
 
@@ -106,23 +106,16 @@ fn pass_back(table: &[u8], l: Place, h: Place, k: u32) -> Place
     requires k_bound { k ≤ count is_change (slice (l.0 + 1) h.0 (words_of table.now)) }
     ensures { result.0 ≡ l.0 + 1 + all_but k (slice (l.0 + 1) h.0 (words_of table.now)) }
 {
-    let end = l.0;
     let mut left = k;
-    let mut i = left_of(h).0;
-    while i > end {
-        let w = word_at(table, Place(i));
-        if change(w) {
+    for i in (right_of(l).0..h.0).rev() {
+        if change(word_at(table, Place(i))) {
             if left == 0 {
                 return right_of(Place(i));
-            } else {
-                left -= 1;
-                i -= 1;
             }
-        } else {
-            i -= 1;
+            left -= 1;
         }
     }
-    right_of(Place(i))
+    right_of(l)
 }
 
 // Where the home's group begins or would: the groups of the homes left of it are passed over. The way is counted from
@@ -132,16 +125,17 @@ pub fn group_start(table: &[u8], l: End, h: Place) -> Place
     ensures { result.0 ≡ l.gap.0 + 1 + group_start table.now l.gap.0 h.0 }
 {
     if l.changes < l.virgins {
-        return pass_groups(table, h, l.virgins - l.changes);
+        pass_groups(table, h, l.virgins - l.changes)
     } else {
-        return pass_back(table, l.gap, h, l.changes - l.virgins);
+        pass_back(table, l.gap, h, l.changes - l.virgins)
     }
 }
 
-// The words from p on are the group of a home, with so many keys before it: they are looked at up to its end.
+// The words from p on are the group of a home, with so many keys before it: they are looked at up to its end. The last
+// look stands apart, since little of it is needed where the key is only to be found.
 fn read_group(table: &[u8], p: Place, x: u16, before: u32) -> Read
-    requires fact_1 { 1 ≤ count is_change (words_from table.now p.0) }
-    requires fact_2 { before ≤ p.0 }
+    requires ends { 1 ≤ count is_change (words_from table.now p.0) }
+    requires before_bound { before ≤ p.0 }
     ensures { (home_at : ℕ) →
         result ≡ group_read (entry home_at x) (more before unseen) (words_from table.now p.0) }
 {
@@ -152,13 +146,14 @@ fn read_group(table: &[u8], p: Place, x: u16, before: u32) -> Read
         largest: true,
     };
     let mut i = p.0;
-    let mut w = word_at(table, p);
-    while !change(w) {
+    loop {
+        let w = word_at(table, Place(i));
+        if change(w) {
+            return read_of(look(seen, x, remainder(w)));
+        }
         seen = look(seen, x, remainder(w));
         i += 1;
-        w = word_at(table, Place(i));
     }
-    read_of(look(seen, x, remainder(w)))
 }
 
 // The key of home and remainder x, in the cluster after the gap l: p is where the home's group begins or would.
@@ -168,12 +163,12 @@ pub fn read_from(table: &[u8], l: Place, p: Place, h: Place, x: u16) -> Read
 {
     let before = places_between(l, p);
     if virgin(word_at(table, h)) {
-        return read_group(table, p, x, before);
+        read_group(table, p, x, before)
     } else {
-        return Read {
+        Read {
             held: false,
             smaller: before,
-            mark: 2,
-        };
+            mark: Mark::NewGroup,
+        }
     }
 }

@@ -1,90 +1,86 @@
--- `write_keys` meets its contract. The invariant is `Writing`; the measure, how many keys are left.
+-- `write_keys` meets its contract. The invariant is `Writing`, of the slots that are written.
 -- Assumes nothing.
-use Prim.Native.Nat.{◌≤◌}
-use mathlib.Core.Path.{ap}
-use native.Mathlib.Omega.{arith}
-use lib.ListN.{length}
+use Rattle.std.proofs.Common.{◌≤◌, length, ap, arith, rules, of_calls}
 use Rattle.rules.specs.Word.{Word}
 use Rattle.rules.specs.Shape.{places}
+use Rattle.theory.specs.Dealt.{is_occupied}
 use Rattle.table_words.specs.Range.{homes_high}
+use Rattle.table_cluster.specs.Scan.{words_count}
 use Rattle.table_list.specs.Write.{write_begins, homed, key_inside, entry_shaped, write_on, write_ends}
 use Rattle.table_list.proofs.keys.write_keys.Goals as goal
-use Rattle.table_list.proofs.keys.write_keys.Goals.{Start}
+use Rattle.table_list.proofs.keys.write_keys.Goals.{Start, After-next_place-p}
 
-pub loop-k-init : goal.loop-k-init
-loop-k-init c =
+pub loop-slot-init : goal.loop-slot-init
+loop-slot-init c =
     rw c.left_guard-h.ensures
-    (write_begins
-    c.requires
-    c.with_change-w.result
-    (ap (λ (w : Word). w.change) c.with_change-w.ensures))
+    (write_begins c.requires c.with_change-w.result (ap (λ (w : Word). w.change) c.with_change-w.ensures))
 
 -- a table is not larger than the searches allow
-small : (start : Start) → length start.args.table.now ≤ 4294967296
+small : (start : Start) → length start.args.t.bytes.now ≤ 4294967296
 unfolding places
-small start = omega (arith, start.requires.size, homes_high start.args.sh start.requires.range)
+small start = omega (arith, start.args.t.size, homes_high start.args.t.sh.shape start.args.t.sh.in_range)
 
-pub home_after-h-requires : goal.home_after-h-requires
-home_after-h-requires c =
-    record { fact_1 = small (goal.at.home_after-h-requires c).Start; fact_2 = homed c.requires c.loop-k.invariant c.loop-k-test.true }
+pub home_after-h-requires-clause-table_len_bound :
+    goal.home_after-h-requires-clause-table_len_bound
+home_after-h-requires-clause-table_len_bound c = small (goal.at.home_after-h-requires-clause-table_len_bound c).Start
 
-pub next_key-key-requires : goal.next_key-key-requires
-next_key-key-requires c =
-    record { table_len_bound = small (goal.at.next_key-key-requires c).Start; p_in_bounds = key_inside c.requires c.loop-k.invariant c.loop-k-test.true }
+pub home_after-h-requires-clause-homed : goal.home_after-h-requires-clause-homed
+home_after-h-requires-clause-homed c = homed c.requires c.loop-slot.invariant c.loop-slot-test.true
 
-pub join-requires : goal.join-requires
-join-requires c =
+pub next_place-p-requires-clause-table_len_bound :
+    goal.next_place-p-requires-clause-table_len_bound
+next_place-p-requires-clause-table_len_bound c = small (goal.at.next_place-p-requires-clause-table_len_bound c).Start
+
+pub next_place-p-requires-clause-found : goal.next_place-p-requires-clause-found
+next_place-p-requires-clause-found c =
     record {
-      fact_1 = c.requires.range;
-      fact_2 = entry_shaped
-          c.requires
-          c.loop-k.invariant
-          c.loop-k-test.true
-          c.home_after-h.result.0
-          c.next_key-key.result.place.0
-          c.next_key-key.result.word
-          c.remainder.result
-          c.home_after-h.ensures
-          c.next_key-key.ensures.fact_1
-          c.next_key-key.ensures.fact_2
-          c.remainder.ensures;
+      is = is_occupied;
+      told = λ w b low p. search (rules, of_calls);
+      ahead = key_inside c.requires c.loop-slot.invariant c.loop-slot-test.true;
     }
 
-pub offset_bounds-slots-k : goal.offset_bounds-slots-k
-offset_bounds-slots-k c =
-    omega (arith, c.loop-k-test.true, c.requires.room, c.well_formed)
+pub word-w-requires : goal.word-w-requires
+word-w-requires c =
+    omega (
+      arith,
+      c.next_place-p.ensures is_occupied (λ w b low p. search (rules, of_calls)),
+      key_inside c.requires c.loop-slot.invariant c.loop-slot-test.true,
+      words_count c.args.t.bytes.now,
+    )
 
-pub bounds-slots-k : goal.bounds-slots-k
-bounds-slots-k c =
-    omega (arith, c.loop-k.invariant.size, c.requires.room)
+pub invariant_of-join : goal.invariant_of-join
+invariant_of-join c = record {
+  in_shape =
+      entry_shaped
+      c.requires
+      c.loop-slot.invariant
+      c.loop-slot-test.true
+      c.home_after-h.result.0
+      c.next_place-p.result.0
+      c.word-w.result
+      c.remainder.result
+      c.home_after-h.ensures
+      (c.next_place-p.ensures is_occupied (λ w b low p. search (rules, of_calls)))
+      c.word-w.ensures
+      c.remainder.ensures;
+}
 
-pub overflow_add-k : goal.overflow_add-k
-overflow_add-k c =
-    omega (arith, c.loop-k-test.true, c.requires.room, c.well_formed)
-
-pub loop-k-smaller : goal.loop-k-smaller
-loop-k-smaller c = omega (arith, c.loop-k-test.true)
-
-pub loop-k-preserved : goal.loop-k-preserved
-loop-k-preserved c =
+pub loop-slot-preserved : goal.loop-slot-preserved
+loop-slot-preserved c =
     write_on
     c.requires
-    c.loop-k.invariant
-    c.loop-k-test.true
+    c.loop-slot.invariant
+    c.loop-slot-test.true
     c.home_after-h.result.0
-    c.next_key-key.result.place.0
-    c.next_key-key.result.word
+    c.next_place-p.result.0
+    c.word-w.result
     c.remainder.result
     c.home_after-h.ensures
-    c.next_key-key.ensures.fact_1
-    c.next_key-key.ensures.fact_2
+    (c.next_place-p.ensures is_occupied (λ w b low p. search (rules, of_calls)))
+    c.word-w.ensures
     c.remainder.ensures
     c.join.result
     c.join.ensures
 
-pub shape_of-slots : goal.shape_of-slots
-shape_of-slots c = c.loop-k.invariant.size
-
 pub returns : goal.returns
-returns c =
-    write_ends c.requires c.loop-k.invariant c.loop-k-test.false
+returns c = write_ends c.requires c.loop-slot.invariant c.loop-slot-test.false

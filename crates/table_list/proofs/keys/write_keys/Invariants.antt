@@ -1,9 +1,6 @@
-use Prim.Native.Nat.{◌-◌}
+use Rattle.std.proofs.Common.{take}
 use Rattle.table_list.specs.Write.{Writing}
 use Rattle.table_list.proofs.keys.write_keys.Given as goal
 
-abbrev pub invariant-loop-k : goal.invariant-loop-k
-invariant-loop-k l = Writing l.sh l.table l.initial.slots l.h.0 l.p.0 l.w l.k l.slots
-
-abbrev pub decreases-loop-k : goal.decreases-loop-k
-decreases-loop-k l = l.n - l.k
+abbrev pub invariant-loop-slot : goal.invariant-loop-slot
+invariant-loop-slot l = Writing l.t.sh.shape l.t.bytes.now (take l.n l.fn.slots) l.h.0 l.p.0 l.w l.slot-index l.slot-items

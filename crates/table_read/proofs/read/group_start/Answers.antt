@@ -1,8 +1,7 @@
 -- `group_start` meets its contract: the way is counted from the home, to one side or the other.
 -- Assumes nothing.
-use mathlib.Core.Path.{◌∙◌}
-use Rattle.std.proofs.Common.{rules}
-use Rattle.table_read.specs.FromLeft.{right_few, start_right, left_few, start_left, start_is}
+use Rattle.std.proofs.Common.{◌∙◌}
+use Rattle.table_read.specs.FromLeft.{right_few, start_right, start_left, start_is}
 use Rattle.table_read.proofs.read.group_start.Goals as goal
 
 pub pass_groups-requires : goal.pass_groups-requires
@@ -11,9 +10,6 @@ pass_groups-requires c = right_few c.requires c.if-l.true
 pub returns-then-l : goal.returns-then-l
 returns-then-l c =
     c.pass_groups.ensures ∙ start_right c.requires c.if-l.true ∙ start_is c.requires
-
-pub pass_back-requires : goal.pass_back-requires
-pass_back-requires c = search (rules, left_few)
 
 pub returns-else-l : goal.returns-else-l
 returns-else-l c =

@@ -1,8 +1,6 @@
 -- `look` meets its contract: a law for each order of the two remainders.
 -- Assumes nothing.
-use Prim.Native.Nat.{ℕ}
-use mathlib.Core.Path.{sym}
-use native.Mathlib.Omega.{arith}
+use Rattle.std.proofs.Common.{ℕ, sym, arith}
 use Rattle.table_read.specs.Read.{look_below, look_above, look_equal}
 use Rattle.table_read.proofs.read.look.Goals as goal
 

@@ -1,15 +1,10 @@
 -- `pass_groups` meets its contract. The invariant: the groups that are left lead to the same place, and are there.
 -- Assumes nothing.
-use Prim.Native.Nat.{ℕ, ◌+◌, ◌<◌}
-use mathlib.Core.Path.{◌≡◌, refl, sym, ◌∙◌, ap}
-use native.Mathlib.Omega.{arith}
+use Rattle.std.proofs.Common.{ℕ, ◌+◌, ◌<◌, ◌≡◌, sym, ◌∙◌, ap, arith}
 use Rattle.rules.specs.Lists.{bit_of}
 use Rattle.table_read.specs.Group.{passed, places_of, words_from, group_there, word_past, fewer_groups, passed_all}
 use Rattle.table_read.proofs.read.pass_groups.Goals as goal
 use Rattle.table_read.proofs.read.pass_groups.Goals.{In-loop-left}
-
-pub loop-left-init : goal.loop-left-init
-loop-left-init c = (c.requires, refl)
 
 -- at each turn there is a word
 there :
@@ -26,9 +21,6 @@ there turn =
 
 pub word_at-w-requires : goal.word_at-w-requires
 word_at-w-requires c = omega (arith, there c)
-
-pub overflow_sub-left : goal.overflow_sub-left
-overflow_sub-left c = omega arith
 
 pub overflow_add-i : goal.overflow_add-i
 overflow_add-i c = omega (arith, there (goal.at.overflow_add-i c).In-loop-left)

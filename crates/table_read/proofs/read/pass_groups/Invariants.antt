@@ -1,5 +1,4 @@
-use Prim.Native.Nat.{◌+◌, ◌-◌, ◌≤◌}
-use mathlib.Core.Path.{◌≡◌}
+use Rattle.std.proofs.Common.{◌≡◌, ◌+◌, ◌-◌, ◌≤◌}
 use Rattle.rules.specs.Lists.{count}
 use Rattle.theory.specs.Dealt.{is_change}
 use Rattle.table_read.specs.Group.{passed, places_of, words_from}

@@ -1,16 +1,10 @@
 -- `read_from` meets its contract: the key's own group is read, or is new.
 -- Assumes nothing.
-use mathlib.Core.Path.{sym, ◌∙◌, ap}
-use native.Mathlib.Omega.{arith}
+use Rattle.std.proofs.Common.{sym, ◌∙◌, ap}
 use Rattle.rules.specs.Word.{Word}
 use Rattle.table_read.specs.Read.{entry}
 use Rattle.table_read.specs.FromLeft.{read_own, read_new}
 use Rattle.table_read.proofs.read.read_from.Goals as goal
-
-pub read_group-requires : goal.read_group-requires
-read_group-requires c =
-    let bit = c.virgin.ensures ∙ ap (λ (w : Word). w.virgin) c.word_at.ensures in
-    record { fact_1 = c.requires.ends (sym bit ∙ c.if-virgin.true); fact_2 = omega arith }
 
 pub returns-then-virgin : goal.returns-then-virgin
 returns-then-virgin c =
