@@ -11,26 +11,27 @@ ghost use Rattle.table_packed.specs.Packed.{packed as packed_answer, gives, pack
 
 use table_find::fill::fill;
 use table_find::find::find;
-use table_packed::{pack_fill, pack_find, pack_put};
+use table_packed::pack;
 use table_put::put::put;
 
 #[unsafe(no_mangle)]
 pub extern "C" fn wd_find(m: u32, r: u32, table: &[u8], key: u32) -> u64
     ensures { result ≡ packed_answer (spec_find (shape_of m r) table.now key) }
 {
-    pack_find(find(m, r, table, key))
+    pack(find(m, r, table, key))
 }
 
+#[tactic(auto, using(table_packed::specs::Packed::packs))]
 #[unsafe(no_mangle)]
 pub extern "C" fn wd_put(m: u32, r: u32, table: &mut [u8], key: u32) -> u64
     ensures { gives result table.new ≡ packed_leaves (spec_put (shape_of m r) table.old key) }
 {
-    pack_put(put(m, r, table, key))
+    pack(put(m, r, table, key))
 }
 
 #[unsafe(no_mangle)]
 pub extern "C" fn wd_fill(m: u32, r: u32, table: &[u8]) -> u64
     ensures { result ≡ packed_answer (spec_fill (shape_of m r) table.now) }
 {
-    pack_fill(fill(m, r, table))
+    pack(fill(m, r, table))
 }

@@ -1,6 +1,6 @@
 // Build and list for C programs on a host (01, Answers and their numbers), in the form of the firmware's calls.
 // They require nothing, since nobody checks what C passes; include/woollydusk.h declares them.
-#![tactic(auto)]
+#![tactic(auto, using(table_packed::specs::Packed::packs))]
 
 ghost use Rattle.std.specs.Prelude.{◌≡◌};
 ghost use Rattle.rules.specs.Shape.{shape_of};
@@ -9,7 +9,7 @@ ghost use Rattle.rules.specs.Listing.{listing as spec_list};
 ghost use Rattle.table_packed.specs.Packed.{gives, packed_leaves};
 
 use table_list::list::list;
-use table_packed::{pack_done, pack_list};
+use table_packed::pack;
 use table_put::build::build;
 
 #[unsafe(no_mangle)]
@@ -17,7 +17,7 @@ pub extern "C" fn wd_build(m: u32, r: u32, table: &mut [u8], keys: &[u32]) -> u6
     ensures { gives result table.new
         ≡ packed_leaves (spec_build (shape_of m r) table.old keys.now) }
 {
-    pack_done(build(m, r, table, keys))
+    pack(build(m, r, table, keys))
 }
 
 #[unsafe(no_mangle)]
@@ -25,5 +25,5 @@ pub extern "C" fn wd_list(m: u32, r: u32, table: &[u8], slots: &mut [u32]) -> u6
     ensures { gives result slots.new
         ≡ packed_leaves (spec_list (shape_of m r) table.now slots.old) }
 {
-    pack_list(list(m, r, table, slots))
+    pack(list(m, r, table, slots))
 }

@@ -3,10 +3,9 @@
 -- `beside_cluster`, `read_cluster`: then the cluster stands in the table, and a read from its left end reads its keys.
 -- `Crowded`: an occupied home, as find and put come to it: `left_owed` to `told_open`, what the calls ask and tell.
 -- Assumes nothing.
-use Rattle.std.specs.Prelude.{ℕ, suc, ◌+◌, ◌*◌, ◌≤◌, ◌<◌, ◌≡◌, Bool, ◌&&◌, List, length}
-use Rattle.std.proofs.Math.Path.{refl, ap}
-use Rattle.std.proofs.Common.{sym, ◌∙◌, ap₂, add-one, arith}
-use Rattle.std.proofs.Math.Bool.{true, false, or-false}
+use Rattle.std.specs.Prelude.{ℕ, suc, ◌+◌, ◌*◌, ◌≤◌, ◌<◌, ◌≡◌, refl, Bool, true, false, ◌&&◌, List, length, Ok}
+use Rattle.std.proofs.Common.{sym, ◌∙◌, ap, ap₂, add-one, arith, rules}
+use Rattle.std.proofs.Math.Bool.{or-false}
 use Rattle.std.proofs.Math.Seq.{slice-cons, slice_empty}
 use Rattle.rules.specs.declared.Shape.{Shape}
 use Rattle.rules.specs.Lists.{count, all, any}
@@ -19,17 +18,17 @@ use Rattle.rules.specs.Table.{ends_in_change, rising, cluster_entries}
 use Rattle.rules.specs.Find.{around, sound_around, locked_around}
 use Rattle.table_words.specs.Range.{InRange, homes_high}
 use Rattle.table_words.specs.Layout.{words_length}
-use Rattle.table_words.specs.Split.{InShape}
+use Rattle.table_words.specs.declared.key.Parts.{Parts}
 use Rattle.theory.specs.Gaps.{HomePlace}
 use Rattle.theory.specs.Keys.{home_place}
 use Rattle.theory.specs.Dealt.{is_virgin, is_change, is_occupied, and_left, and_right}
 use Rattle.theory.specs.Cut.{CutHome, cut_home}
 use Rattle.theory.specs.Places.{left_free, gap_left, gap_right, gap_cluster}
 use Rattle.table_cluster.specs.Homes.{Housed, sound_housed}
-use Rattle.table_read.specs.Read.{read_of}
+use Rattle.table_read.specs.Read.{entry, read_of}
 use Rattle.table_cluster.specs.Ends.{left_end, right_end}
 use Rattle.table_read.specs.FromLeft.{LeftCounted, read_from, read_from_lem, housed_beside}
-use Rattle.table_cluster.specs.Check.{check_of, sound_between}
+use Rattle.table_cluster.specs.Check.{check_of, sound_between, passed}
 use Rattle.table_cluster.specs.declared.gaps.End.{End}
 use Rattle.table_read.specs.declared.read.Read.{Read}
 use Rattle.table_cluster.specs.declared.run.Check.{Check}
@@ -47,6 +46,21 @@ open_guards {sh} {ws} o = and_left (guards_void sh ws) _ (and_left (guards_void 
 pub home_bit : {v w : Word} {r b : Bool} → v ≡ w → r ≡ v.occupied → r ≡ b → w.occupied ≡ b
 home_bit read tested is = sym (ap is_occupied read) ∙ sym tested ∙ is
 
+-- what a check of the surroundings tells
+abbrev pub check_around : Shape → List Word → ℕ → Check
+check_around sh ws home_at = record { sound = sound_around sh ws home_at; locked = locked_around ws home_at }
+
+pub around_open :
+    {sh : Shape} {ws : List Word} {home_at : ℕ} → Ok tt ≡ passed (check_around sh ws home_at) → Open sh ws home_at
+around_open {sh} {ws} {home_at} e = go (sound_around sh ws home_at) (locked_around ws home_at) refl refl e
+  where
+    go :
+        (s l : Bool) → sound_around sh ws home_at ≡ s → locked_around ws home_at ≡ l →
+        Ok tt ≡ passed (record { sound = s; locked = l }) → Open sh ws home_at
+    go true false p q e = record { sound = p; free = q }
+    go true true p q e = absurd (search rules)
+    go false l p q e = absurd (search rules)
+
 module _ (sh : Shape) (ws : List Word) (home_at : ℕ) where
   pub around_barred : guards_void sh ws ≡ false → sound_around sh ws home_at ≡ false
   unfolding sound_around
@@ -56,13 +70,13 @@ module _ (sh : Shape) (ws : List Word) (home_at : ℕ) where
     -- the cluster and its ends, by a check of them
     pub around_check :
         check_of sh ws (left_gap (occupied_places ws) home_at) (right_gap (occupied_places ws) home_at)
-        ≡ record { sound = sound_around sh ws home_at; locked = locked_around ws home_at }
+        ≡ check_around sh ws home_at
     unfolding check_of sound_between sound_around locked_around around cluster
     around_check = rw void
 
     -- an unoccupied home is its own gap on both sides, with nothing between
     module _ (size : length ws ≡ places sh) (h : HomePlace sh home_at) (empty : (at ws home_at).occupied ≡ false) where
-      pub alone_sound : sound_around sh ws home_at ≡ is_void (at ws home_at)
+      alone_sound : sound_around sh ws home_at ≡ is_void (at ws home_at)
       unfolding sound_around sound_run count all rising ends_in_change
       alone_sound =
           rw (void, gap_cluster ws home_at empty, gap_left ws home_at empty, gap_right ws home_at empty)
@@ -72,7 +86,7 @@ module _ (sh : Shape) (ws : List Word) (home_at : ℕ) where
           twice true = refl
           twice false = refl
 
-      pub alone_locked : locked_around ws home_at ≡ (at ws home_at).lock
+      alone_locked : locked_around ws home_at ≡ (at ws home_at).lock
       unfolding locked_around around locked any places
       alone_locked =
           rw (
@@ -82,6 +96,10 @@ module _ (sh : Shape) (ws : List Word) (home_at : ℕ) where
             slice_empty (suc home_at) ws,
           )
           (or-false (at ws home_at).lock)
+
+      pub around_alone :
+          check_around sh ws home_at ≡ record { sound = is_void (at ws home_at); locked = (at ws home_at).lock }
+      around_alone = λ i. record { sound = alone_sound i; locked = alone_locked i }
 
 -- ---- a cluster, and a read of it from its left end
 pub record Inside (sh : Shape) (ws : List Word) (home_at : ℕ) : Type 0 where
@@ -155,114 +173,81 @@ module _ {sh : Shape} (bs : List ℕ) (e : Entry) (range : InRange sh) (even : l
         (ap (λ (a : End). a.virgins) is ∙ rw add-one)
         (ap (λ (a : End). a.changes) is ∙ rw add-one)
 
--- ---- an occupied home between void guards, as find and put come to it: what they ask for, and what the check tells
-pub record Crowded (sh : Shape) (bs : List ℕ) (home_at : ℕ) : Type 0 where
-  pub range : InRange sh
-  pub even : length bs ≡ 2 * places sh
-  pub home_place : HomePlace sh home_at
-  pub void : guards_void sh (words_of bs) ≡ true
-  pub full : (at (words_of bs) home_at).occupied ≡ true
+-- ---- a home between void guards, as find and put come to it: what their calls ask for, and what they tell
+module _ (k : Parts) (bs : List ℕ) (even : length bs ≡ 2 * places k.sh.shape) where
+  size : length (words_of bs) ≡ places k.sh.shape
+  size = words_length bs (places k.sh.shape) even
 
--- as their contracts say it
-pub crowded :
-    {sh : Shape} {bs : List ℕ} {e : Entry} →
-    InRange sh
-    × ((length bs ≡ 2 * places sh)
-    × (InShape sh e × ((guards_void sh (words_of bs) ≡ true) × ((at (words_of bs) e.home_place).occupied ≡ true)))) →
-    Crowded sh bs e.home_place
-crowded (range, (even, (i, (void, full)))) =
-    record { range = range; even = even; home_place = home_place i; void = void; full = full }
-
-module _ {sh : Shape} {bs : List ℕ} {home_at : ℕ} (c : Crowded sh bs home_at) where
-  size : length (words_of bs) ≡ places sh
-  size = words_length bs (places sh) c.even
-
-  cut : CutHome (words_of bs) home_at
-  cut = cluster_cut size c.home_place c.full c.void
-
-  home_inside : 2 * home_at + 1 < length bs
+  pub home_inside : 2 * k.home.0 + 1 < length bs
   unfolding places
-  home_inside = omega (arith, c.even, c.home_place.last)
+  home_inside = omega (arith, even, k.in_shape.home_high)
 
-  left_open : (at (words_of bs) 0).occupied ≡ false
-  left_open = left_free sh (words_of bs) c.void
-
-  table_small : length bs ≤ 2097156
+  pub table_small : length bs ≤ 2097156
   unfolding places
-  table_small = omega (arith, c.even, homes_high sh c.range)
+  table_small = omega (arith, even, homes_high k.sh.shape k.sh.in_range)
 
-  gap_inside : 2 * right_gap (occupied_places (words_of bs)) home_at + 1 < length bs
-  gap_inside = omega (arith, cut.inside, size, c.even)
+  module _ (void : guards_void k.sh.shape (words_of bs) ≡ true) where
+    pub left_open : (at (words_of bs) 0).occupied ≡ false
+    left_open = left_free k.sh.shape (words_of bs) void
 
-  -- what is owed to left_end, and to right_end
-  pub left_owed :
-      (2 * home_at + 1 < length bs)
-      × (((at (words_of bs) 0).occupied ≡ false) × ((at (words_of bs) home_at).occupied ≡ true))
-  left_owed = (home_inside, (left_open, c.full))
+    pub empty_checked :
+        (w : Word) → w ≡ at (words_of bs) k.home.0 → w.occupied ≡ false →
+        record { sound = is_void w; locked = w.lock } ≡ check_around k.sh.shape (words_of bs) k.home.0
+    empty_checked w is empty =
+        rw is (sym (around_alone k.sh.shape (words_of bs) k.home.0 void size (home_place k.in_shape) (rw is at empty)))
 
-  pub right_owed :
-      {l : End} → l ≡ left_end (words_of bs) home_at →
-      (length bs ≤ 2097156)
-      × ((2 * right_gap (occupied_places (words_of bs)) home_at + 1 < length bs)
-      × (((at (words_of bs) 0).occupied ≡ false)
-      × (((at (words_of bs) home_at).occupied ≡ true) × (l ≡ left_end (words_of bs) home_at))))
-  right_owed left = (table_small, (gap_inside, (left_open, (c.full, left))))
+    module _ (full : (at (words_of bs) k.home.0).occupied ≡ true) where
+      cut : CutHome (words_of bs) k.home.0
+      cut = cluster_cut size (home_place k.in_shape) full void
 
-  module _ (l r : End) (left : l ≡ left_end (words_of bs) home_at) (right : r ≡ right_end (words_of bs) home_at) where
-    left_gap_lem : l.gap.0 ≡ left_gap (occupied_places (words_of bs)) home_at
-    unfolding left_end
-    left_gap_lem = ap (λ (a : End). a.gap.0) left
+      pub gap_inside : 2 * right_gap (occupied_places (words_of bs)) k.home.0 + 1 < length bs
+      gap_inside = omega (arith, cut.inside, size, even)
 
-    right_gap_lem : r.gap.0 ≡ right_gap (occupied_places (words_of bs)) home_at
-    unfolding right_end
-    right_gap_lem = ap (λ (a : End). a.gap.0) right
+      module _ (l r : End)
+          (left : l ≡ left_end (words_of bs) k.home.0) (right : r ≡ right_end (words_of bs) k.home.0)
+        where
+          left_gap_lem : l.gap.0 ≡ left_gap (occupied_places (words_of bs)) k.home.0
+          unfolding left_end
+          left_gap_lem = ap (λ (a : End). a.gap.0) left
 
-    ends_apart : l.gap.0 < r.gap.0
-    ends_apart = omega (arith, left_gap_lem, right_gap_lem, cut.after, cut.before)
+          right_gap_lem : r.gap.0 ≡ right_gap (occupied_places (words_of bs)) k.home.0
+          unfolding right_end
+          right_gap_lem = ap (λ (a : End). a.gap.0) right
 
-    end_inside : 2 * r.gap.0 + 1 < length bs
-    end_inside = omega (arith, right_gap_lem, gap_inside)
+          pub ends_apart : l.gap.0 < r.gap.0
+          ends_apart = omega (arith, left_gap_lem, right_gap_lem, cut.after, cut.before)
 
-    virgins_counted : r.virgins ≡ count is_virgin (between (words_of bs) l.gap.0 r.gap.0)
-    unfolding right_end
-    virgins_counted = rw (left_gap_lem, right_gap_lem) (ap (λ (a : End). a.virgins) right)
+          pub end_inside : 2 * r.gap.0 + 1 < length bs
+          end_inside = omega (arith, right_gap_lem, gap_inside)
 
-    changes_counted : r.changes ≡ count is_change (between (words_of bs) l.gap.0 r.gap.0)
-    unfolding right_end
-    changes_counted = rw (left_gap_lem, right_gap_lem) (ap (λ (a : End). a.changes) right)
+          pub virgins_counted : r.virgins ≡ count is_virgin (between (words_of bs) l.gap.0 r.gap.0)
+          unfolding right_end
+          virgins_counted = rw (left_gap_lem, right_gap_lem) (ap (λ (a : End). a.virgins) right)
 
-    -- what is owed to check_run
-    pub check_owed :
-        InRange sh
-        × ((l.gap.0 < r.gap.0)
-        × ((2 * r.gap.0 + 1 < length bs)
-        × ((r.virgins ≡ count is_virgin (between (words_of bs) l.gap.0 r.gap.0))
-        × (r.changes ≡ count is_change (between (words_of bs) l.gap.0 r.gap.0)))))
-    check_owed = (c.range, (ends_apart, (end_inside, (virgins_counted, changes_counted))))
+          pub changes_counted : r.changes ≡ count is_change (between (words_of bs) l.gap.0 r.gap.0)
+          unfolding right_end
+          changes_counted = rw (left_gap_lem, right_gap_lem) (ap (λ (a : End). a.changes) right)
 
-    checked :
-        (run : Check) → run ≡ check_of sh (words_of bs) l.gap.0 r.gap.0 →
-        run ≡ record { sound = sound_around sh (words_of bs) home_at; locked = locked_around (words_of bs) home_at }
-    checked run is =
-        is
-        ∙ ap₂ (check_of sh (words_of bs)) left_gap_lem right_gap_lem
-        ∙ around_check sh (words_of bs) home_at c.void
+          pub cluster_checked :
+              check_of k.sh.shape (words_of bs) l.gap.0 r.gap.0 ≡ check_around k.sh.shape (words_of bs) k.home.0
+          cluster_checked =
+              ap₂ (check_of k.sh.shape (words_of bs)) left_gap_lem right_gap_lem
+              ∙ around_check k.sh.shape (words_of bs) k.home.0 void
 
-    pub told_sound :
-        (run : Check) → run ≡ check_of sh (words_of bs) l.gap.0 r.gap.0 →
-        run.sound ≡ sound_around sh (words_of bs) home_at
-    told_sound run is = ap (λ (a : Check). a.sound) (checked run is)
+  -- what passes the check may be read from its left end
+  module _ (o : Open k.sh.shape (words_of bs) k.home.0) (full : (at (words_of bs) k.home.0).occupied ≡ true)
+      (l : End) (left : l ≡ left_end (words_of bs) k.home.0)
+    where
+      i : Inside k.sh.shape (words_of bs) k.home.0
+      i = cluster_inside size (home_place k.in_shape) full o
 
-    pub told_locked :
-        (run : Check) → run ≡ check_of sh (words_of bs) l.gap.0 r.gap.0 →
-        run.locked ≡ locked_around (words_of bs) home_at
-    told_locked run is = ap (λ (a : Check). a.locked) (checked run is)
+      pub cluster_counted : LeftCounted bs l k.home.0
+      cluster_counted = beside_cluster bs (entry k.home.0 k.remainder) k.sh.in_range even i l left
 
-    pub told_open :
-        (run : Check) → run ≡ check_of sh (words_of bs) l.gap.0 r.gap.0 → run.sound ≡ true →
-        run.locked ≡ false → Open sh (words_of bs) home_at
-    told_open run is sound free =
-        record { sound = sym (told_sound run is) ∙ sound; free = sym (told_locked run is) ∙ free }
+      pub cluster_read :
+          read_from bs l.gap.0 (entry k.home.0 k.remainder)
+          ≡ read_of (entry k.home.0 k.remainder) (cluster_entries (words_of bs) k.home.0)
+      cluster_read = read_beside bs (entry k.home.0 k.remainder) k.sh.in_range even i l _ left refl
 
-  pub crowded_inside : Open sh (words_of bs) home_at → Inside sh (words_of bs) home_at
-  crowded_inside o = cluster_inside size c.home_place c.full o
+-- what the look at a cluster goes by
+pub ruleset cluster_laws = (home_inside, table_small, left_open, gap_inside, ends_apart, end_inside, virgins_counted, changes_counted)

@@ -2,4 +2,3 @@
 pub mod Around
 pub mod Count
 pub mod Finding
-pub mod Key

@@ -1,52 +1,42 @@
 // The fill figure (01, Answers and their numbers).
-ghost use Rattle.std.specs.Prelude.{◌≡◌, ◌*◌, ◌≤◌, length};
-ghost use Rattle.rules.specs.Lists.{count};
+ghost use Rattle.std.specs.Prelude.{◌≡◌, ◌*◌, ◌≤◌, length, count_by};
+ghost use Rattle.std.specs.List.{range_with_len};
 ghost use Rattle.rules.specs.Bytes.{words_of};
 ghost use Rattle.rules.specs.Shape.{shape_of, places};
+ghost use Rattle.rules.specs.Table.{at};
 ghost use Rattle.rules.specs.Fill.{figure as spec-figure, fill as spec_fill};
-ghost use Rattle.rules.specs.Answer.{fill_says};
-ghost use Rattle.table_words.specs.Range.{InRange};
-ghost use Rattle.theory.specs.Dealt.{is_occupied};
+ghost use Rattle.rules.specs.Answer.{number_says};
 
-use rules::{FillAnswer, Refusal, Shape};
-use table_words::bit::bit_of;
+use rules::Refusal;
 use table_words::bytes::word_at;
 use table_words::place::Place;
-use table_words::shape::{good_table, places, shape_of};
+use table_words::shape::{GoodShape, good_table};
 use table_words::word::occupied;
 
 // The occupied ones among the n places of a table.
 fn count_occupied(table: &[u8], n: u32) -> u32
-    requires fact_1 { length table.now ≡ 2 * n }
-    requires fact_2 { n ≤ 1048578 }
-    ensures { result ≡ count is_occupied (words_of table.now) }
+    requires size { length table.now ≡ 2 * n }
+    requires n_bound { n ≤ 1048578 }
+    ensures { result ≡ count_by (λ i. (at (words_of table.now) i).occupied) (range_with_len 0 n) }
 {
-    let mut k: u32 = 0;
-    let mut i: u32 = 0;
-    while i < n {
-        let w = word_at(table, Place(i));
-        k += bit_of(occupied(w));
-        i += 1;
-    }
-    k
+    (0..n)
+        .filter(|i| occupied(word_at(table, Place(*i))))
+        .count() as u32
 }
 
 // Occupied words × 1,000 / number of words, rounded down.
-fn figure(sh: Shape, table: &[u8]) -> u32
-    requires fact_1 { InRange sh }
-    requires fact_2 { length table.now ≡ 2 * places sh }
-    ensures { result ≡ spec-figure sh (words_of table.now) }
+fn figure(sh: GoodShape, table: &[u8]) -> u32
+    requires size { length table.now ≡ 2 * places sh.shape }
+    ensures { result ≡ spec-figure sh.shape (words_of table.now) }
 {
-    let n = places(sh);
+    let n = sh.places();
     count_occupied(table, n) * 1000 / n
 }
 
-pub fn fill(m: u32, r: u32, table: &[u8]) -> FillAnswer
-    ensures { fill_says result ≡ spec_fill (shape_of m r) table.now }
+#[tactic(auto, unfolding(rules::specs::Fill::fill))]
+pub fn fill(m: u32, r: u32, table: &[u8]) -> Result<u32, Refusal>
+    ensures { number_says result ≡ spec_fill (shape_of m r) table.now }
 {
-    if good_table(m, r, table.len()) {
-        FillAnswer::Figure(figure(shape_of(m, r), table))
-    } else {
-        FillAnswer::Refused(Refusal::BadShape)
-    }
+    let sh = good_table(m, r, table.len())?;
+    Ok(figure(sh, table))
 }

@@ -1,121 +1,75 @@
 // Find (01, Answers and their numbers).
-ghost use Rattle.std.specs.Prelude.{◌≡◌, true, ◌*◌, ◌<◌, length};
-ghost use Rattle.rules.specs.Lists.{bit_of};
-ghost use Rattle.rules.specs.Word.{word_of};
+ghost use Rattle.std.specs.Prelude.{◌≡◌, true, ◌*◌, length};
 ghost use Rattle.rules.specs.Bytes.{words_of};
-ghost use Rattle.rules.specs.Shape.{shape_of, keys, places};
-ghost use Rattle.rules.specs.Entry.{split};
+ghost use Rattle.rules.specs.Shape.{shape_of, places};
 ghost use Rattle.rules.specs.Table.{at, guards_void};
-ghost use Rattle.rules.specs.Answer.{says, find_says};
+ghost use Rattle.rules.specs.Answer.{find_says};
 ghost use Rattle.rules.specs.Find.{find_in, find as spec_find};
-ghost use Rattle.table_words.specs.Range.{InRange};
-ghost use Rattle.table_words.specs.Split.{InShape};
 ghost use Rattle.table_read.specs.Read.{entry};
 ghost use Rattle.table_read.specs.FromLeft.{LeftCounted, read_from};
-ghost use Rattle.table_find.specs.Finding.{alone_says};
 
-use rules::{FindAnswer, Refusal, Shape};
+use rules::Refusal;
 use table_cluster::gaps::{End, left_end, right_end};
 use table_cluster::guards::guards_void;
-use table_cluster::run::check_run;
+use table_cluster::run::{Check, check_run};
 use table_read::read::{group_start, read_from};
 use table_words::bytes::word_at;
-use table_words::key::{good_key, home_place, remainder_of};
-use table_words::place::Place;
-use table_words::shape::{good_table, shape_of};
+use table_words::key::{Parts, split};
+use table_words::shape::good_table;
 use table_words::word::{is_void, lock, occupied};
 
-// At an empty home, by its word.
-fn find_alone(w: u16) -> FindAnswer
-    ensures { find_says result ≡ alone_says (word_of w) }
-{
-    if is_void(w) {
-        if lock(w) {
-            FindAnswer::Refused(Refusal::Locked)
-        } else {
-            FindAnswer::Absent
-        }
-    } else {
-        FindAnswer::Refused(Refusal::Unsound)
-    }
-}
-
 // In a cluster that may be read from its left end.
-fn find_beside(table: &[u8], l: End, h: Place, x: u16) -> FindAnswer
-    requires { LeftCounted table.now l h.0 }
-    ensures { find_says result
-        ≡ says (bit_of (read_from table.now l.gap.0 (entry h.0 x)).held) }
+#[tactic(auto, using(table_read::specs::FromLeft::begins))]
+fn find_beside(table: &[u8], l: End, k: Parts) -> bool
+    requires { LeftCounted table.now l k.home.0 }
+    ensures { result ≡ (read_from table.now l.gap.0 (entry k.home.0 k.remainder)).held }
 {
-    let p = group_start(table, l, h);
-    let read = read_from(table, l.gap, p, h, x);
-    if read.held {
-        FindAnswer::Present
-    } else {
-        FindAnswer::Absent
-    }
+    let p = group_start(table, l, k.home);
+    read_from(table, l.gap, p, k.home, k.remainder).held
 }
 
 // In the cluster of an occupied home: soundness, then the locks, then the key.
-fn find_cluster(sh: Shape, table: &[u8], h: Place, x: u16) -> FindAnswer
-    requires in_range_1 { InRange sh }
-    requires in_range_2 { length table.now ≡ 2 * places sh }
-    requires in_range_3 { InShape sh (entry h.0 x) }
-    requires table_value { guards_void sh (words_of table.now) ≡ true }
-    requires h_value { (at (words_of table.now) h.0).occupied ≡ true }
-    ensures { find_says result ≡ find_in sh (words_of table.now) (entry h.0 x) }
+#[tactic(auto, using(crate::specs::Around::cluster_laws, crate::specs::Around::cluster_checked, crate::specs::Around::around_open, crate::specs::Around::cluster_counted, crate::specs::Around::cluster_read, crate::specs::Finding::found_refused, crate::specs::Finding::found_inside), unfolding(table_read::specs::Read::read_of))]
+fn find_cluster(table: &[u8], k: Parts) -> Result<bool, Refusal>
+    requires size { length table.now ≡ 2 * places k.sh.shape }
+    requires void { guards_void k.sh.shape (words_of table.now) ≡ true }
+    requires full { (at (words_of table.now) k.home.0).occupied ≡ true }
+    ensures { find_says result
+        ≡ find_in k.sh.shape (words_of table.now) (entry k.home.0 k.remainder) }
 {
-    let l = left_end(table, h);
-    let r = right_end(table, h, l);
-    let run = check_run(sh, table, l.gap, r);
-    if run.sound {
-        if run.locked {
-            FindAnswer::Refused(Refusal::Locked)
-        } else {
-            find_beside(table, l, h, x)
-        }
-    } else {
-        FindAnswer::Refused(Refusal::Unsound)
+    let l = left_end(table, k.home);
+    let r = right_end(table, k.home, l);
+    check_run(k.sh, table, l.gap, r).passes()?;
+    Ok(find_beside(table, l, k))
+}
+
+// The guards, then the home: where it is empty it is all that there is around, and its word decides.
+#[tactic(auto, using(crate::specs::Around::home_inside, crate::specs::Around::empty_checked, crate::specs::Finding::found_barred, crate::specs::Finding::found_refused, crate::specs::Finding::found_alone))]
+fn find_at(table: &[u8], k: Parts) -> Result<bool, Refusal>
+    requires size { length table.now ≡ 2 * places k.sh.shape }
+    ensures { find_says result
+        ≡ find_in k.sh.shape (words_of table.now) (entry k.home.0 k.remainder) }
+{
+    if !guards_void(k.sh, table) {
+        return Err(Refusal::Unsound);
     }
-}
-
-fn find_at(sh: Shape, table: &[u8], h: Place, x: u16) -> FindAnswer
-    requires fact_1 { InRange sh }
-    requires fact_2 { length table.now ≡ 2 * places sh }
-    requires fact_3 { InShape sh (entry h.0 x) }
-    ensures { find_says result ≡ find_in sh (words_of table.now) (entry h.0 x) }
-{
-    if guards_void(sh, table) {
-        let w = word_at(table, h);
-        if occupied(w) {
-            find_cluster(sh, table, h, x)
-        } else {
-            find_alone(w)
-        }
-    } else {
-        FindAnswer::Refused(Refusal::Unsound)
+    let w = word_at(table, k.home);
+    if occupied(w) {
+        return find_cluster(table, k);
     }
+    let home = Check {
+        sound: is_void(w),
+        locked: lock(w),
+    };
+    home.passes()?;
+    Ok(false)
 }
 
-fn find_key(sh: Shape, table: &[u8], key: u32) -> FindAnswer
-    requires fact_1 { InRange sh }
-    requires fact_2 { length table.now ≡ 2 * places sh }
-    requires fact_3 { key < keys sh }
-    ensures { find_says result ≡ find_in sh (words_of table.now) (split sh key) }
-{
-    find_at(sh, table, home_place(sh, key), remainder_of(sh, key))
-}
-
-pub fn find(m: u32, r: u32, table: &[u8], key: u32) -> FindAnswer
+#[tactic(auto, unfolding(rules::specs::Find::find))]
+pub fn find(m: u32, r: u32, table: &[u8], key: u32) -> Result<bool, Refusal>
     ensures { find_says result ≡ spec_find (shape_of m r) table.now key }
 {
-    if good_table(m, r, table.len()) {
-        let sh = shape_of(m, r);
-        if good_key(sh, key) {
-            find_key(sh, table, key)
-        } else {
-            FindAnswer::Refused(Refusal::BadKey)
-        }
-    } else {
-        FindAnswer::Refused(Refusal::BadShape)
-    }
+    let sh = good_table(m, r, table.len())?;
+    let k = split(sh, key)?;
+    find_at(table, k)
 }

@@ -1,13 +1,17 @@
 -- The loops of build: all keys in range, the bytes cleared, the keys put one by one; and `build_full`, `build_done`,
 -- what build answers by whether all of them found room.
 -- Assumes nothing.
-use Rattle.std.specs.Prelude.{ℕ, zero, suc, ◌+◌, ◌*◌, ◌≤◌, ◌<◌, ◌≡◌, refl, Bool, true, false, cond, ◌&&◌, length, get_or, drop, replicate, ltb}
-use Rattle.std.proofs.Common.{sym, ◌∙◌, ap, add-one, arith, drop_of_length-le, pow_pos}
+use Rattle.std.specs.Prelude.{ℕ, zero, suc, ◌+◌, ◌*◌, ◌≤◌, ◌<◌, ◌≡◌, refl, Bool, true, false, cond, ◌&&◌, length, get_or, drop, replicate, ltb, Result, Ok, Err, is_err, IfErr}
+use Rattle.std.proofs.Common.{sym, ◌∙◌, ap, add-one, arith, rules, drop_of_length-le, pow_pos}
 use mathlib.Core.List.{List, [], ◌∷◌, ◌++◌, append-nil, map}
 use Rattle.std.proofs.Math.Seq.{drop-cons}
 use Rattle.std.specs.Int.Bits.{bit_or}
+use Rattle.std.specs.List.{fold}
+use Rattle.std.proofs.Math.Bool.{and-true, and_assoc}
 use borrow.Author.Tests.{ltb-true, lt-ltb}
 use Rattle.rules.specs.declared.Shape.{Shape}
+use Rattle.rules.specs.declared.Refusal.{Refusal}
+use Rattle.rules.specs.declared.Refusal.TheVariants.{Full}
 use Rattle.rules.specs.Lists.{all}
 use Rattle.rules.specs.Word.{Word, zero_word, word_of}
 use Rattle.rules.specs.Bytes.{words_of, bytes_of}
@@ -15,36 +19,33 @@ use Rattle.rules.specs.Shape.{keys, places}
 use Rattle.rules.specs.Entry.{split}
 use Rattle.rules.specs.Answer.{says, refuses, leaves}
 use Rattle.rules.specs.Build.{zeros, puts, too_many, build_in}
-use Rattle.table_words.specs.All.{all_asked, all_told}
 use Rattle.table_words.specs.Over.{over_below}
 use Rattle.table_words.specs.Range.{InRange, remainders_high}
 use Rattle.table_words.specs.Layout.{bytes_are}
 use Rattle.theory.specs.Dealt.{and_left, and_right}
 use Rattle.demands.specs.Proof3.{all_within}
-use Rattle.table_put.specs.Filling.{Filled, overflows, filled, filled_if, fill_with, fill_all, fill_stops}
+use Rattle.table_put.specs.Filling.{Filled, overflows, filled, fill_with, fill_all, fill_stops}
 use Rattle.table_put.specs.Filling.{fill_zeros}
 
 -- a key in range
 abbrev pub good : Shape → ℕ → Bool
 good sh key = ltb key (keys sh)
 
--- the keys so far, laid over one another, and the one at i
-module _ (sh : Shape) (ks : List ℕ) (over i : ℕ) where
-  pub goods_begin : good sh 0 ≡ true
-  unfolding keys
-  goods_begin = lt-ltb 0 (keys sh) (pow_pos (sh.m + sh.r))
+-- keys laid over one another, over some laid before
+goods_over :
+    (sh : Shape) (over : ℕ) (ks : List ℕ) → good sh (fold bit_or over ks) ≡ (good sh over && all (good sh) ks)
+unfolding all keys
+goods_over sh over [] = sym (and-true (good sh over))
+goods_over sh over (k ∷ ks) =
+    goods_over sh (bit_or over k) ks
+    ∙ rw (over_below (sh.m + sh.r) over k) (and_assoc (good sh over) (good sh k) (all (good sh) ks))
 
-  pub goods_on :
-      i < length ks →
-      (good sh (bit_or over (get_or ks i 0)) && all (good sh) (drop (i + 1) ks))
-      ≡ (good sh over && all (good sh) (drop i ks))
-  unfolding keys
-  goods_on low =
-      rw (over_below (sh.m + sh.r) over (get_or ks i 0))
-      (all_asked (good sh) ks i 0 low (good sh over) (good sh (get_or ks i 0)) refl)
-
-  pub goods_end : length ks ≤ i → (good sh over && all (good sh) (drop i ks)) ≡ good sh over
-  goods_end done = all_told (good sh) ks i 0 done (good sh over)
+-- all keys laid over one another are in range where each is
+pub goods_laid : (sh : Shape) (ks : List ℕ) → good sh (fold bit_or 0 ks) ≡ all (good sh) ks
+unfolding keys
+goods_laid sh ks =
+    goods_over sh 0 ks
+    ∙ ap (λ (b : Bool). b && all (good sh) ks) (lt-ltb 0 (keys sh) (pow_pos (sh.m + sh.r)))
 
 pub key_good : (sh : Shape) (ks : List ℕ) (i : ℕ) → i < length ks → all (good sh) ks ≡ true → get_or ks i 0 < keys sh
 unfolding all
@@ -81,27 +82,35 @@ module _ (sh : Shape) (ws : List Word) (ks : List ℕ) (i : ℕ) where
   next_fill low = rw (add-one, drop-cons ks i 0 low)
 
   -- the key at i found room, or it did not
-  module _ (low : i < length ks) (b : Bool) (vs : List Word)
-      (made : filled_if b vs ≡ fill_with sh (filled ws) (split sh (get_or ks i 0)))
-    where
-      pub fill_passed :
-          b ≡ true →
-          fill_all sh (filled vs) (map (split sh) (drop (i + 1) ks))
-          ≡ fill_all sh (filled ws) (map (split sh) (drop i ks))
-      fill_passed e =
-          ap (λ (f : Filled). fill_all sh f (map (split sh) (drop (i + 1) ks))) (rw e at made) ∙ next_fill low
+  pub fill_passed :
+      i < length ks → (vs : List Word) → filled vs ≡ fill_with sh (filled ws) (split sh (get_or ks i 0)) →
+      fill_all sh (filled vs) (map (split sh) (drop (i + 1) ks))
+      ≡ fill_all sh (filled ws) (map (split sh) (drop i ks))
+  fill_passed low vs made =
+      ap (λ (f : Filled). fill_all sh f (map (split sh) (drop (i + 1) ks))) made ∙ next_fill low
 
-      pub fill_refused : b ≡ false → overflows ≡ fill_all sh (filled ws) (map (split sh) (drop i ks))
-      fill_refused e =
-          sym (fill_stops sh _)
-          ∙ ap (λ (f : Filled). fill_all sh f (map (split sh) (drop (i + 1) ks))) (rw e at made)
-          ∙ next_fill low
+  pub fill_refused :
+      i < length ks → overflows ≡ fill_with sh (filled ws) (split sh (get_or ks i 0)) →
+      overflows ≡ fill_all sh (filled ws) (map (split sh) (drop i ks))
+  fill_refused low made =
+      sym (fill_stops sh _)
+      ∙ ap (λ (f : Filled). fill_all sh f (map (split sh) (drop (i + 1) ks))) made
+      ∙ next_fill low
 
   pub fill_ends : length ks ≤ i → filled ws ≡ fill_all sh (filled ws) (map (split sh) (drop i ks))
   unfolding fill_all
   fill_ends h = rw (drop_of_length-le ks {i = i} h)
 
 -- ---- what build answers
+-- whether the puts found room, which alone they are refused for
+pub all_put : (r : Result Unit Refusal) → is_err r ≡ false → r ≡ Ok tt
+all_put (Ok _) e = refl
+all_put (Err n) e = absurd (search rules)
+
+pub too_full : (r : Result Unit Refusal) → is_err r ≡ true → IfErr r (λ n. n ≡ Full) → r ≡ Err Full
+too_full (Ok _) e same = absurd (search rules)
+too_full (Err n) e same = ap Err same
+
 module _ (sh : Shape) (range : InRange sh) (bs ks : List ℕ) (goods : all (good sh) ks ≡ true) where
   -- with room for all of them the bytes are those of the puts
   pub build_done :

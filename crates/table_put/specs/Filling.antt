@@ -1,30 +1,32 @@
 -- Keys put one by one until one finds no room, as build does it: `fill_all`. From the table that is all zero one finds
 -- no room exactly where there are too many distinct keys, and else the puts are those of the rule: `fill_zeros`.
 -- Assumes nothing.
-use Rattle.std.specs.Prelude.{ℕ, ◌≤◌, ◌<◌, ◌≡◌, refl, Bool, true, false, cond, ◌||◌, List, [], ◌∷◌, length, ltb, eqb}
+use Rattle.std.specs.Prelude.{ℕ, ◌≤◌, ◌<◌, ◌≡◌, refl, Bool, true, false, cond, ◌||◌, List, [], ◌∷◌, length, ltb, eqb, Result, is_ok, IfErr, Ok, Err}
 use Rattle.std.proofs.Common.{sym, ◌∙◌, ap, subst, arith, ltb-true, ltb-false}
 use Rattle.rules.specs.declared.Shape.{Shape}
 use Rattle.rules.specs.declared.Refusal.{Refusal}
 use Rattle.rules.specs.declared.Refusal.TheVariants.{BadShape, BadKey, BadTask, Busy, AtRest, Unsound, Locked, Full}
 use Rattle.rules.specs.declared.Refusal.TheVariants.{TooFewSlots}
 use Rattle.rules.specs.declared.PutAnswer.{PutAnswer}
-use Rattle.rules.specs.declared.PutAnswer.TheVariants as put_answer
 use Rattle.rules.specs.Lists.{any}
 use Rattle.rules.specs.Word.{Word}
 use Rattle.rules.specs.Shape.{homes, remainders, right_guard, keys}
 use Rattle.rules.specs.Entry.{Entry, same_entry, split}
 use Rattle.rules.specs.Lay.{holds, insert, ascend}
-use Rattle.rules.specs.Answer.{Leaves, leaves, number_of_refusal, put_says}
-use Rattle.rules.specs.Put.{Outcome, put_in, words_after}
+use Rattle.rules.specs.Table.{occupied_places, cluster_entries}
+use Rattle.rules.specs.Room.{Room, place, full, room_for}
+use Rattle.rules.specs.Answer.{says, Leaves, leaves, number_of_refusal, put_says}
+use Rattle.rules.specs.Put.{Outcome, keeps, add_to, put_in, words_after}
 use Rattle.rules.specs.Build.{zeros, puts, too_many}
 use Rattle.theory.specs.Dealt.{or_left, or_right}
 use Rattle.theory.specs.Every.{All, none, both}
 use Rattle.theory.specs.Insert.{Within, ascend_asc, holds_ascend, holds_insert, holds_head, same_eq, same_refl}
 use Rattle.theory.specs.Order.{taken_homes}
 use Rattle.theory.specs.Finding.{surroundings, around_free}
-use Rattle.rules.specs.Find.{sound_around}
-use Rattle.table_words.specs.Range.{InRange, remainders_high}
-use Rattle.table_words.specs.Split.{InShape}
+use Rattle.table_words.specs.Range.{remainders_high}
+use Rattle.table_words.specs.declared.key.Parts.{Parts}
+use Rattle.table_words.specs.declared.shape.GoodShape.{GoodShape}
+use Rattle.table_read.specs.Read.{entry}
 use Rattle.table_find.specs.Around.{Open}
 use Rattle.theory.specs.Keys.{home_place, within_in_shape, split_within}
 use Rattle.theory.specs.Pairs.{table_tight, tight_taken}
@@ -43,12 +45,6 @@ pub data Filled : Type 0 where
 abbrev pub filled_by : Leaves (List Word) → Filled
 filled_by (leaves a ws) = cond (eqb a.number 0) (filled ws) overflows
 
--- a put is refused, or it had room
-abbrev pub had_room : PutAnswer → Bool
-had_room put_answer.Found = true
-had_room put_answer.Inserted = true
-had_room (put_answer.Refused n) = false
-
 -- what the code's answer says
 abbrev pub filled_if : Bool → List Word → Filled
 filled_if b ws = cond b (filled ws) overflows
@@ -65,11 +61,10 @@ refusal_number Full = refl
 refusal_number TooFewSlots = refl
 
 pub room_told :
-    (a : PutAnswer) (vs : List Word) (o : Leaves (List Word)) → leaves (put_says a) vs ≡ o →
-    filled_if (had_room a) vs ≡ filled_by o
-room_told put_answer.Found vs o e = ap filled_by e
-room_told put_answer.Inserted vs o e = ap filled_by e
-room_told (put_answer.Refused n) vs o e = sym (rw (refusal_number n)) ∙ ap filled_by e
+    (a : Result PutAnswer Refusal) (vs : List Word) (o : Leaves (List Word)) → leaves (put_says a) vs ≡ o →
+    filled_if (is_ok a) vs ≡ filled_by o
+room_told (Ok _) vs o e = ap filled_by e
+room_told (Err n) vs o e = sym (rw (refusal_number n)) ∙ ap filled_by e
 
 -- a key more, as long as there was room
 abbrev pub fill_with : Shape → Filled → Entry → Filled
@@ -240,32 +235,63 @@ still_clean sh ws vs e low w c made =
     record { shown = r.shown; state = r.state }
 
 pub key_clean :
-    (sh : Shape) → InRange sh → (ws vs : List Word) (key : ℕ) → key < keys sh → Clean sh ws → (b : Bool) →
-    filled_if b vs ≡ fill_with sh (filled ws) (split sh key) → b ≡ true → Clean sh vs
-key_clean sh range ws vs key low c b made room =
+    (sh : GoodShape) (ws vs : List Word) (key : ℕ) → key < keys sh.shape → Clean sh.shape ws →
+    filled vs ≡ fill_with sh.shape (filled ws) (split sh.shape key) → Clean sh.shape vs
+key_clean sh ws vs key low c made =
     still_clean
-    sh
+    sh.shape
     ws
     vs
-    (split sh key)
-    (remainders_high sh range)
-    (split_within sh key low)
+    (split sh.shape key)
+    (remainders_high sh.shape sh.in_range)
+    (split_within sh.shape key low)
     c
-    (rw room at made)
+    made
 
 -- so the surroundings of a home are sound and unlocked
-module _ {sh : Shape} {ws : List Word} (e : Entry) (range : InRange sh) (i : InShape sh e) (c : Clean sh ws) where
-  around_sound : sound_around sh ws e.home_place ≡ true
-  around_sound =
-      (surroundings
-      sh
-      e
-      (remainders_high sh range)
-      c.state.size
-      (home_place i)
-      i.remainder_low
-      c.state.table
-      ).sound
+pub clean_open : (k : Parts) (ws : List Word) → Clean k.sh.shape ws → Open k.sh.shape ws k.home.0
+clean_open k ws c =
+    record {
+      sound =
+          (surroundings k.sh.shape (entry k.home.0 k.remainder) (remainders_high k.sh.shape k.sh.in_range) c.state.size
+          (home_place k.in_shape)
+          k.in_shape.remainder_low
+          c.state.table
+          ).sound;
+      free = around_free ws k.home.0 c.state.free;
+    }
 
-  pub clean_open : Open sh ws e.home_place
-  clean_open = record { sound = around_sound; free = around_free ws e.home_place c.state.free }
+-- and a key is refused for want of room alone
+full_number : (n : Refusal) → number_of_refusal n ≡ 8 → n ≡ Full
+full_number BadShape e = absurd (omega arith)
+full_number BadKey e = absurd (omega arith)
+full_number BadTask e = absurd (omega arith)
+full_number Busy e = absurd (omega arith)
+full_number AtRest e = absurd (omega arith)
+full_number Unsound e = absurd (omega arith)
+full_number Locked e = absurd (omega arith)
+full_number Full e = refl
+full_number TooFewSlots e = absurd (omega arith)
+
+pub open_full :
+    (sh : Shape) (ws : List Word) (e : Entry) → Open sh ws e.home_place →
+    (r : Result PutAnswer Refusal) (vs : List Word) → leaves (put_says r) vs ≡ words_left ws (put_in sh ws e) →
+    IfErr r (λ n. n ≡ Full)
+unfolding put_in
+open_full sh ws e o r vs made =
+    go (holds e (cluster_entries ws e.home_place)) (room_for sh (occupied_places ws) e.home_place) r
+    (rw (o.sound, o.free) at made)
+  where
+    value : Leaves (List Word) → ℕ
+    value (leaves a us) = a.value
+
+    number : Leaves (List Word) → ℕ
+    number (leaves a us) = a.number
+
+    go :
+        (h : Bool) (room : Room) (r : Result PutAnswer Refusal) →
+        leaves (put_says r) vs ≡ words_left ws (cond h (keeps (says 1)) (add_to ws e room)) → IfErr r (λ n. n ≡ Full)
+    go h room (Ok a) made = tt
+    go true room (Err n) made = let never : ◌≡◌ {A = ℕ} 0 1 = ap value made in absurd (omega arith)
+    go false (place p) (Err n) made = let never : ◌≡◌ {A = ℕ} 0 2 = ap value made in absurd (omega arith)
+    go false full (Err n) made = full_number n (ap number made)

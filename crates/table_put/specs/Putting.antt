@@ -1,38 +1,38 @@
--- Put by what is around the home: `put_barred`, `put_empty_lem`, `put_unsound`, `put_locked`, `put_inside`. Where the key
--- goes on to be added beside its cluster: `added_left`, `added_right`, `added_none`, and its way's bounds, `reach`.
+-- Put by what is around the home: `put_barred` to `put_absent`. Where the key goes on to be added beside its cluster:
+-- `added_left`, `added_right`, `added_none`, and its way's bounds, `reach`.
 -- `bytes_left`: what is said of the words that put leaves is said of every lent byte.
 -- Assumes nothing.
-use Rattle.std.specs.Prelude.{ℕ, suc, ◌+◌, ◌*◌, ◌≤◌, ◌<◌, ◌≡◌, refl, Bool, true, false, cond, List, length, get_or, set}
-use Rattle.std.proofs.Common.{sym, ◌∙◌}
-use Rattle.std.proofs.Math.Path.{ap}
-use native.Mathlib.Omega.{arith}
+use Rattle.std.specs.Prelude.{ℕ, suc, ◌+◌, ◌*◌, ◌≤◌, ◌<◌, ◌≡◌, true, false, List, length, get_or, set, Err}
+use Rattle.std.proofs.Common.{sym, ◌∙◌, ap, arith}
 use Rattle.rules.specs.declared.Shape.{Shape}
+use Rattle.rules.specs.declared.Refusal.{Refusal}
 use Rattle.rules.specs.Lists.{any}
-use Rattle.rules.specs.Word.{Word, is_void, alone_word}
+use Rattle.rules.specs.Word.{Word, alone_word}
 use Rattle.rules.specs.Bytes.{words_of}
 use Rattle.rules.specs.Shape.{places, right_guard}
 use Rattle.rules.specs.Entry.{Entry}
 use Rattle.rules.specs.Table.{at, occupied_places, left_gap, right_gap, guards_void, cluster_entries}
 use Rattle.rules.specs.Room.{room_beside, room_for}
-use Rattle.rules.specs.Lay.{holds, smaller, mark_of}
-use Rattle.rules.specs.Answer.{Answer, says, refuses, Leaves, leaves}
-use Rattle.rules.specs.Find.{sound_around, locked_around}
+use Rattle.rules.specs.Lay.{holds, smaller}
+use Rattle.rules.specs.Answer.{Answer, says, refuses, Leaves, leaves, number_of_refusal}
 use Rattle.rules.specs.Put.{enlarged_from, add_at, Outcome, keeps, writes, add_to, put_in, bytes_after}
-use Rattle.table_words.specs.Range.{InRange, remainders_high}
-use Rattle.table_words.specs.Split.{InShape}
+use Rattle.table_words.specs.Range.{remainders_high}
 use Rattle.table_words.specs.Layout.{same_bytes, bytes_are}
+use Rattle.table_words.specs.declared.key.Parts.{Parts}
 use Rattle.table_words.specs.declared.place.Place.{Place}
 use Rattle.theory.specs.Gaps as gaps
 use Rattle.theory.specs.Gaps.{picks_left, picks_right, picks_neither, picked_only}
 use Rattle.theory.specs.Places.{occupied_at, gap_entries}
 use Rattle.theory.specs.Motion.{fill_at, finish}
 use Rattle.theory.proofs.Moving.{Addable, smaller_inside, add_moves, room_alone, add_alone}
+use Rattle.theory.specs.Keys.{home_place}
 use Rattle.table_read.specs.declared.read.Read.{Read}
-use Rattle.table_read.specs.Read.{read_of}
+use Rattle.table_read.specs.Mark.{number, mark_kind, mark_number}
+use Rattle.table_read.specs.Read.{entry, read_of}
+use Rattle.table_cluster.specs.Check.{passed}
 use Rattle.table_cluster.specs.Ends.{left_end}
 use Rattle.table_cluster.specs.declared.gaps.End.{End}
-use Rattle.table_find.specs.Around.{Open, around_barred, alone_sound, alone_locked, Inside, cluster_inside}
-use Rattle.theory.specs.Keys.{home_place}
+use Rattle.table_find.specs.Around.{Open, check_around, around_barred, Inside, cluster_inside}
 
 -- the answer of an outcome with the words that it leaves
 abbrev pub words_left : List Word → Outcome → Leaves (List Word)
@@ -58,81 +58,19 @@ bytes_left bs cs n a (writes b ws) even-b even-c small_b small-c e =
 abbrev pub add_beside : Shape → List Word → Entry → Outcome
 add_beside sh ws e = add_to ws e (room_beside sh (occupied_places ws) e.home_place)
 
--- the key is looked for among some entries
-abbrev pub put_among : Shape → List Word → Entry → List Entry → Outcome
-put_among sh ws e es = cond (holds e es) (keeps (says 1)) (add_beside sh ws e)
+pub remainder_small : (k : Parts) → k.remainder < 4096
+remainder_small k = omega (arith, k.in_shape.remainder_low, remainders_high k.sh.shape k.sh.in_range)
 
--- the key is put where its home is empty, by the home's word
-abbrev pub put_alone : List Word → Entry → Outcome
-put_alone ws e = writes (says 2) (set ws e.home_place (alone_word e.remainder))
+module _ (sh : Shape) (ws : List Word) (e : Entry) where
+  pub put_barred : guards_void sh ws ≡ false → put_in sh ws e ≡ keeps (refuses 6)
+  unfolding put_in
+  put_barred barred = rw (around_barred sh ws e.home_place barred)
 
-abbrev pub put_empty : List Word → Entry → Outcome
-put_empty ws e =
-    cond (is_void (at ws e.home_place))
-    (cond (at ws e.home_place).lock (keeps (refuses 7)) (put_alone ws e))
-    (keeps (refuses 6))
-
-addable :
-    {sh : Shape} {ws : List Word} {e : Entry} →
-    InRange sh → InShape sh e → length ws ≡ places sh → Open sh ws e.home_place →
-    holds e (cluster_entries ws e.home_place) ≡ false → Addable sh ws e
-addable {sh} range i size o new =
-    record {
-      low = remainders_high sh range;
-      remainder = i.remainder_low;
-      home_place = home_place i;
-      size = size;
-      sound = o.sound;
-      free = o.free;
-      new = new;
-    }
-
-module _ (sh : Shape) (ws : List Word) (e : Entry)
-    (range : InRange sh) (i : InShape sh e) (size : length ws ≡ places sh)
-  where
-    pub put_barred : guards_void sh ws ≡ false → put_in sh ws e ≡ keeps (refuses 6)
-    unfolding put_in
-    put_barred barred = rw (around_barred sh ws e.home_place barred)
-
-    pub put_unsound : sound_around sh ws e.home_place ≡ false → put_in sh ws e ≡ keeps (refuses 6)
-    unfolding put_in
-    put_unsound s = rw s
-
-    pub put_locked :
-        sound_around sh ws e.home_place ≡ true → locked_around ws e.home_place ≡ true →
-        put_in sh ws e ≡ keeps (refuses 7)
-    unfolding put_in
-    put_locked s l = rw (s, l)
-
-    pub put_alone_lem : Open sh ws e.home_place → (at ws e.home_place).occupied ≡ false → put_in sh ws e ≡ put_alone ws e
-    unfolding put_in room_for holds any
-    put_alone_lem o empty =
-        let none = gap_entries ws e.home_place empty in
-        let a = addable range i size o (ap (holds e) none) in
-        rw (o.sound, o.free, none, room_alone a empty, add_alone a empty)
-
-    pub put_empty_lem :
-        guards_void sh ws ≡ true → (at ws e.home_place).occupied ≡ false → put_in sh ws e ≡ put_empty ws e
-    put_empty_lem void empty = go (is_void (at ws e.home_place)) (at ws e.home_place).lock refl refl
-      where
-        sound_is : sound_around sh ws e.home_place ≡ is_void (at ws e.home_place)
-        sound_is = alone_sound sh ws e.home_place void size (home_place i) empty
-
-        locked_is : locked_around ws e.home_place ≡ (at ws e.home_place).lock
-        locked_is = alone_locked sh ws e.home_place void size (home_place i) empty
-
-        go :
-            (v l : Bool) → is_void (at ws e.home_place) ≡ v → (at ws e.home_place).lock ≡ l →
-            put_in sh ws e ≡ cond v (cond l (keeps (refuses 7)) (put_alone ws e)) (keeps (refuses 6))
-        go false l x y = put_unsound (sound_is ∙ x)
-        go true true x y = put_locked (sound_is ∙ x) (locked_is ∙ y)
-        go true false x y = put_alone_lem (record { sound = sound_is ∙ x; free = locked_is ∙ y }) empty
-
-    pub put_inside :
-        Open sh ws e.home_place → (at ws e.home_place).occupied ≡ true →
-        put_in sh ws e ≡ put_among sh ws e (cluster_entries ws e.home_place)
-    unfolding put_in room_for
-    put_inside o full = rw (o.sound, o.free, occupied_at ws e.home_place, full)
+  pub put_refused :
+      (n : Refusal) → Err n ≡ passed (check_around sh ws e.home_place) →
+      put_in sh ws e ≡ keeps (refuses (number_of_refusal n))
+  unfolding put_in
+  put_refused n p = grind arith
 
 -- ---- beside the cluster
 
@@ -146,7 +84,7 @@ pub record Insertable (sh : Shape) (ws : List Word) (e : Entry) (l : Place) (rea
 
 -- what is left where the key was brought from the hand to its goal
 abbrev pub brought_to : List Word → Entry → Read → ℕ → ℕ → List Word
-brought_to ws e read hand goal = finish (fill_at e.remainder ws hand) hand goal read.mark e.home_place
+brought_to ws e read hand goal = finish (fill_at e.remainder ws hand) hand goal (number read.mark) e.home_place
 
 module _ {sh : Shape} {ws : List Word} {e : Entry} {l : Place} {read : Read} (g : Insertable sh ws e l read) where
   -- no more keys are smaller than there are
@@ -176,9 +114,10 @@ module _ {sh : Shape} {ws : List Word} {e : Entry} {l : Place} {read : Read} (g 
       (fill_at e.remainder ws p)
       p
       (a + smaller e (cluster_entries ws e.home_place))
-      (mark_of e (cluster_entries ws e.home_place))
+      (number (mark_kind e (cluster_entries ws e.home_place)))
       e.home_place
-  moved side p a here from = rw (← from, here) (add_moves g.addable g.full side)
+  moved side p a here from =
+      rw (← from, here, mark_number e (cluster_entries ws e.home_place)) (add_moves g.addable g.full side)
 
   pub added_left :
       (l.0 ≡ 0 → ⊥) → add_beside sh ws e ≡ writes (says 2) (brought_to ws e read l.0 (l.0 + read.smaller))
@@ -202,19 +141,55 @@ module _ {sh : Shape} {ws : List Word} {e : Entry} {l : Place} {read : Read} (g 
     unfolding room_beside
     added_none near far = rw (← g.left, ← right, picked_only sh l.0 r.0 (picks_neither near far))
 
--- a read of the cluster that does not find the key makes it ready
-pub ready :
-    (sh : Shape) (ws : List Word) (e : Entry) {l : End} {read : Read} →
-    InRange sh → InShape sh e → length ws ≡ places sh → Open sh ws e.home_place →
-    (at ws e.home_place).occupied ≡ true →
-    l ≡ left_end ws e.home_place → read ≡ read_of e (cluster_entries ws e.home_place) → read.held ≡ false →
-    Insertable sh ws e l.gap read
-unfolding read_of left_end
-ready sh ws e range i size o full end reads new =
-    record {
-      addable = addable range i size o (sym (ap (λ (a : Read). a.held) reads) ∙ new);
-      full = full;
-      left = ap (λ (a : End). a.gap.0) end;
-      inside = cluster_inside size (home_place i) full o;
-      read_is = reads;
-    }
+-- ---- a key of the shape, in a table of its size
+module _ (k : Parts) (ws : List Word) (size : length ws ≡ places k.sh.shape) where
+  abbrev e : Entry
+  e = entry k.home.0 k.remainder
+
+  -- an absent key may be added
+  addable : Open k.sh.shape ws k.home.0 → holds e (cluster_entries ws k.home.0) ≡ false → Addable k.sh.shape ws e
+  addable o new =
+      record {
+        low = remainders_high k.sh.shape k.sh.in_range;
+        remainder = k.in_shape.remainder_low;
+        home_place = home_place k.in_shape;
+        size = size;
+        sound = o.sound;
+        free = o.free;
+        new = new;
+      }
+
+  module _ (o : Open k.sh.shape ws k.home.0) where
+    pub put_alone :
+        (at ws k.home.0).occupied ≡ false →
+        put_in k.sh.shape ws e ≡ writes (says 2) (set ws k.home.0 (alone_word k.remainder))
+    unfolding put_in room_for holds any
+    put_alone empty =
+        let none = gap_entries ws k.home.0 empty in
+        let a = addable o (ap (holds e) none) in
+        rw (o.sound, o.free, none, room_alone a empty, add_alone a empty)
+
+    module _ (read : Read) (reads : read ≡ read_of e (cluster_entries ws k.home.0)) where
+      pub put_held : read.held ≡ true → put_in k.sh.shape ws e ≡ keeps (says 1)
+      unfolding put_in read_of
+      put_held held = rw (o.sound, o.free, sym (ap (λ (a : Read). a.held) reads) ∙ held)
+
+      module _ (full : (at ws k.home.0).occupied ≡ true) (absent : read.held ≡ false) where
+        new : holds e (cluster_entries ws k.home.0) ≡ false
+        unfolding read_of
+        new = sym (ap (λ (a : Read). a.held) reads) ∙ absent
+
+        pub put_ready : (l : End) → l ≡ left_end ws k.home.0 → Insertable k.sh.shape ws e l.gap read
+        unfolding left_end
+        put_ready l left =
+            record {
+              addable = addable o new;
+              full = full;
+              left = ap (λ (a : End). a.gap.0) left;
+              inside = cluster_inside size (home_place k.in_shape) full o;
+              read_is = reads;
+            }
+
+        pub put_absent : put_in k.sh.shape ws e ≡ add_beside k.sh.shape ws e
+        unfolding put_in room_for
+        put_absent = rw (o.sound, o.free, new, occupied_at ws k.home.0, full)

@@ -1,143 +1,96 @@
 // Build (01, Answers and their numbers): puts from all zero, so into a table that stays sound and unlocked.
 // A key that finds no room shows that there are too many.
-ghost use Rattle.std.specs.Prelude.{◌≡◌, true, map, ℕ, ◌*◌, ◌<◌, length, ltb};
+ghost use Rattle.std.specs.Prelude.{◌≡◌, true, is_ok, IfErr, map, ℕ, ◌*◌, ◌<◌, length, ltb};
 ghost use Rattle.rules.specs.Lists.{all};
 ghost use Rattle.rules.specs.Bytes.{words_of};
 ghost use Rattle.rules.specs.Shape.{shape_of, places, keys as keys_of};
 ghost use Rattle.rules.specs.Entry.{split};
-ghost use Rattle.rules.specs.Answer.{leaves, put_says, done_says};
-ghost use Rattle.rules.specs.Put.{put_in};
+ghost use Rattle.rules.specs.Answer.{leaves, done_says};
 ghost use Rattle.rules.specs.Build.{build_in, build as spec_build};
-ghost use Rattle.table_words.specs.Range.{InRange};
-ghost use Rattle.table_words.specs.Split.{InShape};
+ghost use Rattle.rules.specs.declared.Refusal.TheVariants.{Full};
 ghost use Rattle.table_read.specs.Read.{entry};
 ghost use Rattle.table_put.specs.Filling.{filled, filled_if, fill_with, fill_all, Clean};
-ghost use Rattle.table_put.specs.Putting.{words_left};
 
-use crate::adding::{put_alone, put_beside};
-use rules::{Done, PutAnswer, Refusal, Shape};
-use table_cluster::gaps::left_end;
-use table_words::bytes::{clear, word_at};
-use table_words::key::{good_key, home_place, remainder_of};
-use table_words::place::Place;
-use table_words::shape::{good_table, shape_of};
-use table_words::word::occupied;
+use crate::adding::put_open;
+use rules::{PutAnswer, Refusal};
+use table_words::bytes::clear;
+use table_words::key::{Parts, home_of, remainder_of};
+use table_words::place::place_of_home;
+use table_words::shape::{GoodShape, good_table};
 
 // The number of keys is a power of two, so it is enough to ask for all of them laid over one another.
-fn good_keys(sh: Shape, keys: &[u32]) -> bool
-    requires { InRange sh }
-    ensures { result ≡ all (λ (key : ℕ). ltb key (keys_of sh)) keys.now }
+fn good_keys(sh: GoodShape, keys: &[u32]) -> bool
+    ensures { result ≡ all (λ (key : ℕ). ltb key (keys_of sh.shape)) keys.now }
 {
-    let mut over: u32 = 0;
-    let mut i = 0;
-    while i < keys.len() {
-        over = over | keys[i];
-        i += 1;
-    }
-    good_key(sh, over)
+    let over = keys.iter().fold(0, |over, key| over | *key);
+    sh.has_key(over)
 }
 
-// Put in a table that is known to be sound and unlocked: nothing of that is asked again.
-fn put_clean_at(sh: Shape, table: &mut [u8], h: Place, x: u16) -> PutAnswer
-    requires in_range_1 { InRange sh }
-    requires in_range_2 { length table.old ≡ 2 * places sh }
-    requires in_range_3 { InShape sh (entry h.0 x) }
-    requires clean { Clean sh (words_of table.old) }
-    ensures { leaves (put_says result) (words_of table.new)
-        ≡ words_left (words_of table.old) (put_in sh (words_of table.old) (entry h.0 x)) }
+// The parts of a key that is known to be in range.
+#[tactic(auto, using(table_words::specs::Split::home_fits, table_words::specs::Split::split_in_shape), unfolding(rules::specs::Entry::split))]
+fn parts_of(sh: GoodShape, key: u32) -> Parts
+    requires low { key < keys_of sh.shape }
+    ensures shape { result.sh ≡ sh }
+    ensures parts { entry result.home.0 result.remainder ≡ split sh.shape key }
 {
-    let w = word_at(table, h);
-    if occupied(w) {
-        let l = left_end(table, h);
-        return put_beside(sh, table, l, h, x);
-    } else {
-        return put_alone(table, h, x);
+    Parts {
+        sh,
+        home: place_of_home(home_of(sh, key)),
+        remainder: remainder_of(sh, key),
     }
 }
 
-fn put_clean(sh: Shape, table: &mut [u8], key: u32) -> PutAnswer
-    requires in_range_1 { InRange sh }
-    requires in_range_2 { length table.old ≡ 2 * places sh }
-    requires in_range_3 { key < keys_of sh }
-    requires clean { Clean sh (words_of table.old) }
-    ensures { leaves (put_says result) (words_of table.new)
-        ≡ words_left (words_of table.old) (put_in sh (words_of table.old) (split sh key)) }
+// Put in a table that is known to be sound and unlocked: nothing of that is asked again, and it can only be full.
+fn put_clean(sh: GoodShape, table: &mut [u8], key: u32) -> Result<PutAnswer, Refusal>
+    requires size { length table.old ≡ 2 * places sh.shape }
+    requires low { key < keys_of sh.shape }
+    requires clean { Clean sh.shape (words_of table.old) }
+    ensures room { filled_if (is_ok result) (words_of table.new)
+        ≡ fill_with sh.shape (filled (words_of table.old)) (split sh.shape key) }
+    ensures err { IfErr result (λ n. n ≡ Full) }
 {
-    put_clean_at(sh, table, home_place(sh, key), remainder_of(sh, key))
+    let k = parts_of(sh, key);
+    put_open(table, k)
 }
 
-// Whether there was room for the key.
-fn put_fits(sh: Shape, table: &mut [u8], key: u32) -> bool
-    requires in_range_1 { InRange sh }
-    requires in_range_2 { length table.old ≡ 2 * places sh }
-    requires in_range_3 { key < keys_of sh }
-    requires clean { Clean sh (words_of table.old) }
-    ensures { filled_if result (words_of table.new)
-        ≡ fill_with sh (filled (words_of table.old)) (split sh key) }
+fn put_all(sh: GoodShape, table: &mut [u8], keys: &[u32]) -> Result<(), Refusal>
+    requires size { length table.old ≡ 2 * places sh.shape }
+    requires low { all (λ (key : ℕ). ltb key (keys_of sh.shape)) keys.now ≡ true }
+    requires clean { Clean sh.shape (words_of table.old) }
+    ensures room { filled_if (is_ok result) (words_of table.new)
+        ≡ fill_all sh.shape (filled (words_of table.old)) (map (split sh.shape) keys.now) }
+    ensures err { IfErr result (λ n. n ≡ Full) }
 {
-    let answer = put_clean(sh, table, key);
-    match answer {
-        PutAnswer::Found => {
-            return true;
-        }
-        PutAnswer::Inserted => {
-            return true;
-        }
-        PutAnswer::Refused(_) => {
-            return false;
-        }
+    for key in keys {
+        put_clean(sh, table, *key)?;
     }
+    Ok(())
 }
 
-// Whether there was room for all of them.
-fn put_all(sh: Shape, table: &mut [u8], keys: &[u32]) -> bool
-    requires in_range_1 { InRange sh }
-    requires in_range_2 { length table.old ≡ 2 * places sh }
-    requires keys_value { all (λ (key : ℕ). ltb key (keys_of sh)) keys.now ≡ true }
-    requires clean { Clean sh (words_of table.old) }
-    ensures { filled_if result (words_of table.new)
-        ≡ fill_all sh (filled (words_of table.old)) (map (split sh) keys.now) }
-{
-    let mut i = 0;
-    while i < keys.len() {
-        if put_fits(sh, table, keys[i]) {
-            i += 1;
-        } else {
-            return false;
-        }
-    }
-    true
-}
-
-fn build_in(sh: Shape, table: &mut [u8], keys: &[u32]) -> Done
-    requires in_range_1 { InRange sh }
-    requires in_range_2 { length table.old ≡ 2 * places sh }
-    requires keys_value { all (λ (key : ℕ). ltb key (keys_of sh)) keys.now ≡ true }
+fn build_in(sh: GoodShape, table: &mut [u8], keys: &[u32]) -> Result<(), Refusal>
+    requires size { length table.old ≡ 2 * places sh.shape }
+    requires low { all (λ (key : ℕ). ltb key (keys_of sh.shape)) keys.now ≡ true }
     ensures { leaves (done_says result) table.new
-        ≡ build_in sh table.old (map (split sh) keys.now) }
+        ≡ build_in sh.shape table.old (map (split sh.shape) keys.now) }
 {
     let n = table.len();
     clear(table, n);
-    if put_all(sh, table, keys) {
-        return Done::Accepted;
-    } else {
+    let put = put_all(sh, table, keys);
+    if put.is_err() {
         clear(table, n);
-        return Done::Refused(Refusal::Full);
     }
+    put
 }
 
-pub fn build(m: u32, r: u32, table: &mut [u8], keys: &[u32]) -> Done
+#[tactic(auto, unfolding(rules::specs::Build::build))]
+pub fn build(m: u32, r: u32, table: &mut [u8], keys: &[u32]) -> Result<(), Refusal>
     ensures { leaves (done_says result) table.new
         ≡ spec_build (shape_of m r) table.old keys.now }
 {
-    if good_table(m, r, table.len()) {
-        let sh = shape_of(m, r);
-        if good_keys(sh, keys) {
-            return build_in(sh, table, keys);
-        } else {
-            return Done::Refused(Refusal::BadKey);
-        }
+    let sh = good_table(m, r, table.len())?;
+    if good_keys(sh, keys) {
+        build_in(sh, table, keys)
     } else {
-        return Done::Refused(Refusal::BadShape);
+        Err(Refusal::BadKey)
     }
 }

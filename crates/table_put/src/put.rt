@@ -1,112 +1,70 @@
 // Put (01, Answers and their numbers; Where a new key goes).
-ghost use Rattle.std.specs.Prelude.{◌≡◌, true, ◌+◌, ◌*◌, ◌<◌, length};
+ghost use Rattle.std.specs.Prelude.{◌≡◌, true, ◌*◌, length};
 ghost use Rattle.rules.specs.Bytes.{words_of};
-ghost use Rattle.rules.specs.Shape.{shape_of, keys, places};
-ghost use Rattle.rules.specs.Entry.{split};
+ghost use Rattle.rules.specs.Shape.{shape_of, places};
 ghost use Rattle.rules.specs.Table.{at, guards_void};
 ghost use Rattle.rules.specs.Answer.{leaves, put_says};
 ghost use Rattle.rules.specs.Put.{put_in, put as spec_put};
-ghost use Rattle.table_words.specs.Range.{InRange};
-ghost use Rattle.table_words.specs.Split.{InShape};
 ghost use Rattle.table_read.specs.Read.{entry};
-ghost use Rattle.table_put.specs.Putting.{words_left, put_empty};
+ghost use Rattle.table_put.specs.Putting.{words_left};
 
 use crate::adding::{put_alone, put_beside};
-use rules::{PutAnswer, Refusal, Shape};
+use rules::{PutAnswer, Refusal};
 use table_cluster::gaps::{left_end, right_end};
 use table_cluster::guards::guards_void;
-use table_cluster::run::check_run;
+use table_cluster::run::{Check, check_run};
 use table_words::bytes::word_at;
-use table_words::key::{good_key, home_place, remainder_of};
-use table_words::place::Place;
-use table_words::shape::{good_table, shape_of};
+use table_words::key::{Parts, split};
+use table_words::shape::good_table;
 use table_words::word::{is_void, lock, occupied};
 
-// The home is empty: its word decides.
-fn put_empty(table: &mut [u8], h: Place, x: u16) -> PutAnswer
-    requires fact_1 { 2 * h.0 + 1 < length table.old }
-    requires fact_2 { x < 4096 }
+// The home is occupied: soundness of its cluster, then the locks, then the key.
+#[tactic(auto, using(table_find::specs::Around::cluster_laws, table_find::specs::Around::cluster_checked, crate::specs::Putting::put_refused))]
+fn put_cluster(table: &mut [u8], k: Parts) -> Result<PutAnswer, Refusal>
+    requires size { length table.old ≡ 2 * places k.sh.shape }
+    requires void { guards_void k.sh.shape (words_of table.old) ≡ true }
+    requires full { (at (words_of table.old) k.home.0).occupied ≡ true }
     ensures { leaves (put_says result) (words_of table.new)
         ≡ words_left
         (words_of table.old)
-        (put_empty (words_of table.old) (entry h.0 x)) }
+        (put_in k.sh.shape (words_of table.old) (entry k.home.0 k.remainder)) }
 {
-    let w = word_at(table, h);
-    if is_void(w) {
-        if lock(w) {
-            return PutAnswer::Refused(Refusal::Locked);
-        } else {
-            return put_alone(table, h, x);
-        }
-    } else {
-        return PutAnswer::Refused(Refusal::Unsound);
-    }
+    let l = left_end(table, k.home);
+    let r = right_end(table, k.home, l);
+    check_run(k.sh, table, l.gap, r).passes()?;
+    put_beside(table, k, l)
 }
 
-// The home is occupied: soundness of its cluster, then the locks, then the key.
-fn put_cluster(sh: Shape, table: &mut [u8], h: Place, x: u16) -> PutAnswer
-    requires in_range_1 { InRange sh }
-    requires in_range_2 { length table.old ≡ 2 * places sh }
-    requires in_range_3 { InShape sh (entry h.0 x) }
-    requires table_value { guards_void sh (words_of table.old) ≡ true }
-    requires h_value { (at (words_of table.old) h.0).occupied ≡ true }
+// The guards, then the home: where it is empty it is all that there is around, and its word decides.
+#[tactic(auto, using(table_find::specs::Around::home_inside, table_find::specs::Around::empty_checked, table_find::specs::Around::around_open, crate::specs::Putting::put_barred, crate::specs::Putting::put_refused))]
+fn put_at(table: &mut [u8], k: Parts) -> Result<PutAnswer, Refusal>
+    requires size { length table.old ≡ 2 * places k.sh.shape }
     ensures { leaves (put_says result) (words_of table.new)
-        ≡ words_left (words_of table.old) (put_in sh (words_of table.old) (entry h.0 x)) }
+        ≡ words_left
+        (words_of table.old)
+        (put_in k.sh.shape (words_of table.old) (entry k.home.0 k.remainder)) }
 {
-    let l = left_end(table, h);
-    let r = right_end(table, h, l);
-    let run = check_run(sh, table, l.gap, r);
-    if run.sound {
-        if run.locked {
-            return PutAnswer::Refused(Refusal::Locked);
-        } else {
-            return put_beside(sh, table, l, h, x);
-        }
-    } else {
-        return PutAnswer::Refused(Refusal::Unsound);
+    if !guards_void(k.sh, table) {
+        return Err(Refusal::Unsound);
     }
-}
-
-fn put_at(sh: Shape, table: &mut [u8], h: Place, x: u16) -> PutAnswer
-    requires fact_1 { InRange sh }
-    requires fact_2 { length table.old ≡ 2 * places sh }
-    requires fact_3 { InShape sh (entry h.0 x) }
-    ensures { leaves (put_says result) (words_of table.new)
-        ≡ words_left (words_of table.old) (put_in sh (words_of table.old) (entry h.0 x)) }
-{
-    if guards_void(sh, table) {
-        let w = word_at(table, h);
-        if occupied(w) {
-            return put_cluster(sh, table, h, x);
-        } else {
-            return put_empty(table, h, x);
-        }
-    } else {
-        return PutAnswer::Refused(Refusal::Unsound);
+    let w = word_at(table, k.home);
+    if occupied(w) {
+        return put_cluster(table, k);
     }
+    let home = Check {
+        sound: is_void(w),
+        locked: lock(w),
+    };
+    home.passes()?;
+    put_alone(table, k);
+    Ok(PutAnswer::Inserted)
 }
 
-fn put_key(sh: Shape, table: &mut [u8], key: u32) -> PutAnswer
-    requires fact_1 { InRange sh }
-    requires fact_2 { length table.old ≡ 2 * places sh }
-    requires fact_3 { key < keys sh }
-    ensures { leaves (put_says result) (words_of table.new)
-        ≡ words_left (words_of table.old) (put_in sh (words_of table.old) (split sh key)) }
-{
-    put_at(sh, table, home_place(sh, key), remainder_of(sh, key))
-}
-
-pub fn put(m: u32, r: u32, table: &mut [u8], key: u32) -> PutAnswer
+#[tactic(auto, unfolding(rules::specs::Put::put))]
+pub fn put(m: u32, r: u32, table: &mut [u8], key: u32) -> Result<PutAnswer, Refusal>
     ensures { leaves (put_says result) table.new ≡ spec_put (shape_of m r) table.old key }
 {
-    if good_table(m, r, table.len()) {
-        let sh = shape_of(m, r);
-        if good_key(sh, key) {
-            return put_key(sh, table, key);
-        } else {
-            return PutAnswer::Refused(Refusal::BadKey);
-        }
-    } else {
-        return PutAnswer::Refused(Refusal::BadShape);
-    }
+    let sh = good_table(m, r, table.len())?;
+    let k = split(sh, key)?;
+    put_at(table, k)
 }

@@ -1,9 +1,7 @@
--- `bring` meets its contract: the fill, the moves and the mark are those of the definition.
+-- `bring` meets its contract: a remainder of the shape fits a word.
 -- Assumes nothing.
-use Rattle.theory.specs.Motion.{finish}
+use Rattle.table_put.specs.Putting.{remainder_small}
 use Rattle.table_put.proofs.adding.bring.Goals as goal
 
-pub returns : goal.returns
-unfolding finish
-returns c =
-    rw (c.mark.ensures, c.carry.ensures, c.fill_at.ensures)
+pub fill_at-requires-clause-fact_2 : goal.fill_at-requires-clause-fact_2
+fill_at-requires-clause-fact_2 c = remainder_small c.args.k
