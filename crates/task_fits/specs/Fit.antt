@@ -1,16 +1,16 @@
--- When a record fits (01, Tasks and their steps). `Fits`: what holds of a busy one; `fitting`: its test tells it.
--- `fits_resting` to `fits_beyond`: what is asked in each phase.
+-- When a record fits (01, Tasks and their steps). `fits_left` to `at_end`: what is asked of a busy one, by the phase.
+-- `Fits`: what then holds of it; `fitting`: its test tells it.
 -- Assumes nothing.
-use Rattle.std.specs.Prelude.{ℕ, suc, ◌≤◌, ◌<◌, ◌≡◌, refl, Bool, true, false, not, ◌&&◌, ◌||◌, ◌≢◌, ltb, leb, eqb}
-use Rattle.std.proofs.Common.{sym, true≢false, inl, arith}
-use Rattle.std.proofs.Math.Bool.{and-true, and-eq-true_iff}
-use borrow.Author.Tests.{le-leb, lt-leb, eq-eqb, ne_eqb, ltb-true, leb-true, eqb-false, not-true}
+use Rattle.std.specs.Prelude.{suc, ◌≤◌, ◌<◌, ◌≡◌, Bool, true, false, not, ◌&&◌, ◌||◌, ltb, leb, eqb}
+use Rattle.std.proofs.Common.{sym, true≢false, arith}
+use Rattle.std.proofs.Math.Bool.{and-eq-true_iff}
+use borrow.Author.Tests.{le-leb, lt-leb, ne_eqb, eq-eqb, ltb-true, leb-true, eqb-false, not-true}
 use Rattle.rules.specs.declared.Shape.{Shape}
 use Rattle.rules.specs.declared.Task.{Task}
 use Rattle.rules.specs.Shape.{homes, keys, right_guard}
 use Rattle.rules.specs.Record.{home_place_of, within, implies, busy, at_rest, fits_hand, fits_busy, fits}
 use Rattle.table_words.specs.Tests.{Between, inside, between}
-use Rattle.theory.specs.Record.{Resting, resting, not_resting, is_busy, done_or_beyond, fits_works}
+use Rattle.theory.specs.Record.{fits_works}
 
 -- what a busy record is asked, each with all before it: key and left, from phase 2; right, from phase 3; hand, goal and
 -- mark, in 8 to 10
@@ -27,61 +27,10 @@ fits_work sh t = fits_right sh t && fits_hand sh t
 abbrev pub at_end : Task → Bool
 at_end t = eqb t.hand t.left || eqb t.hand t.right
 
--- what is none of 8 to 10 is not from 8 to 10
-working_not : (n : ℕ) → n ≢ 8 → n ≢ 9 → n ≢ 10 → within 8 10 n ≡ false
-working_not n not-8 not-9 not-10 = go (leb 8 n) refl
-  where
-    go : (b : Bool) → leb 8 n ≡ b → (b && leb n 10) ≡ false
-    go false e = refl
-    go true e = let low = leb-true 8 n e in lt-leb n 10 (omega arith)
-
--- ---- what is asked, by the phase
-module _ (sh : Shape) (t : Task) where
-  pub fits_resting : Resting t → fits sh t ≡ true
-  unfolding fits
-  fits_resting e = rw (resting t e)
-
-  pub fits_1 : t.phase ≡ 1 → fits sh t ≡ ltb t.key (keys sh)
-  unfolding fits at_rest busy fits_busy
-  fits_1 e = rw e (simp and-true)
-
-  pub fits_2 : t.phase ≡ 2 → fits sh t ≡ fits_left sh t
-  unfolding fits at_rest busy fits_busy
-  fits_2 e = rw e (simp and-true)
-
-  -- phases 3 to 7, 11 and 12: what is busy and none of the others
-  pub fits_between :
-      (Resting t → ⊥) → t.phase ≢ 1 → t.phase ≢ 2 → t.phase ≢ 8 → t.phase ≢ 9 → t.phase ≢ 10 → t.phase < 13 →
-      fits sh t ≡ fits_right sh t
-  unfolding fits fits_busy
-  fits_between awake not-1 not-2 not-8 not-9 not-10 high =
-      let not_0 : t.phase ≢ 0 = λ e. awake (inl e) in
-      rw (
-        not_resting t awake,
-        is_busy t not_0 high,
-        le-leb 2 t.phase (omega arith),
-        le-leb 3 t.phase (omega arith),
-        working_not t.phase not-8 not-9 not-10,
-        ne_eqb t.phase 8 not-8,
-        ne_eqb t.phase 9 not-9,
-        ne_eqb t.phase 10 not-10,
-      ) (simp and-true)
-
-  pub fits_8 : t.phase ≡ 8 → fits sh t ≡ (fits_work sh t && at_end t)
-  unfolding fits at_rest busy fits_busy
-  fits_8 e = rw e (simp and-true)
-
-  pub fits_9 : t.phase ≡ 9 → fits sh t ≡ (fits_work sh t && not (eqb t.hand t.goal))
-  unfolding fits at_rest busy fits_busy
-  fits_9 e = rw e (simp and-true)
-
-  pub fits_10 : t.phase ≡ 10 → fits sh t ≡ (fits_work sh t && eqb t.hand t.goal)
-  unfolding fits at_rest busy fits_busy
-  fits_10 e = rw e (simp and-true)
-
-  pub fits_beyond : (Resting t → ⊥) → 13 ≤ t.phase → fits sh t ≡ false
-  unfolding fits
-  fits_beyond awake h = rw (not_resting t awake, done_or_beyond t h)
+-- no record with a phase above 13 fits
+pub fits_beyond : (sh : Shape) (t : Task) → 13 < t.phase → fits sh t ≡ false
+unfolding fits at_rest busy
+fits_beyond sh t h = grind (arith, le-leb, lt-leb, ne_eqb)
 
 -- hand and goal from 1 to 2^m; goal at least 2 for mark 1
 pub record FitsHand (sh : Shape) (t : Task) : Type 0 where

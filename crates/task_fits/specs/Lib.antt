@@ -2,4 +2,4 @@
 pub mod Fit
 pub mod Ready
 pub mod Taken
-pub mod Phases
+pub mod Phase

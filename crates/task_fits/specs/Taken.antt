@@ -1,10 +1,9 @@
 -- A step as code takes it: the turn that is answered, and the words that are left.
 -- Assumes nothing.
-use Rattle.std.specs.Prelude.{ℕ, ◌≡◌, Bool, List}
+use Rattle.std.specs.Prelude.{ℕ, ◌≡◌, Bool, List, Err, Ok, Result}
+use Rattle.rules.specs.declared.Refusal.{Refusal}
 use Rattle.rules.specs.declared.Shape.{Shape}
 use Rattle.rules.specs.declared.Task.{Task}
-use Rattle.rules.specs.declared.Turn.{Turn}
-use Rattle.rules.specs.declared.Turn.TheVariants.{Next, Refused}
 use Rattle.rules.specs.declared.Refusal.TheVariants.{Unsound}
 use Rattle.rules.specs.Word.{Word}
 use Rattle.rules.specs.Bytes.{words_of}
@@ -12,15 +11,15 @@ use Rattle.rules.specs.Phase.{Step, to, unsound}
 
 -- a turn with the words that it leaves
 pub data Taken : Type 0 where
-  taken : Turn → List Word → Taken
+  taken : Result Task Refusal → List Word → Taken
 
 -- what a step of the rules is, taken on some words: a refusal leaves them as they were
 abbrev pub takes : List Word → Step → Taken
-takes ws (to t vs) = taken (Next t) vs
-takes ws unsound = taken (Refused Unsound) ws
+takes ws (to t vs) = taken (Ok t) vs
+takes ws unsound = taken (Err Unsound) ws
 
 -- code that is lent some bytes and leaves others takes the step that the rules define
-abbrev pub Follows : (Shape → List Word → Task → Step) → Shape → Task → List ℕ → Turn → List ℕ → Type 0
+abbrev pub Follows : (Shape → List Word → Task → Step) → Shape → Task → List ℕ → Result Task Refusal → List ℕ → Type 0
 Follows step sh t before turn after = taken turn (words_of after) ≡ takes (words_of before) (step sh (words_of before) t)
 
 -- what a test of the word at a place tells

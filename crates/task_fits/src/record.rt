@@ -2,6 +2,7 @@
 ghost use Rattle.std.specs.Prelude.{◌≡◌};
 ghost use Rattle.rules.specs.Record.{no_task, at_rest};
 
+use crate::phase::Phase;
 use rules::Task;
 
 // All zero: idle, with no key.
@@ -10,7 +11,7 @@ pub fn no_task() -> Task
 {
     Task {
         key: 0,
-        phase: 0,
+        phase: Phase::Idle.into(),
         left: 0,
         right: 0,
         hand: 0,
@@ -20,9 +21,10 @@ pub fn no_task() -> Task
     }
 }
 
-// Phases 0 and 13: idle or done.
+// Idle or done.
+#[tactic(auto, unfolding(rules::specs::Record::at_rest))]
 pub fn at_rest(t: Task) -> bool
     ensures { result ≡ at_rest t }
 {
-    if t.phase == 0 { true } else { t.phase == 13 }
+    matches!(Phase::try_from(t.phase), Ok(Phase::Idle | Phase::Done))
 }

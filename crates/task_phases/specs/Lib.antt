@@ -1,2 +1,3 @@
 -- What the contracts of this crate cite, and the laws that its proofs rest on.
+pub mod Answer
 pub mod Reading

@@ -27,6 +27,7 @@ use Rattle.theory.specs.Gaps as gaps
 use Rattle.theory.specs.Places.{void_free, occupied_at}
 use Rattle.theory.proofs.Moving.{smaller_inside}
 use Rattle.theory.specs.Cut.{between_at}
+use Rattle.table_read.specs.Mark.{number, mark_number}
 use Rattle.table_read.specs.declared.read.Read.{Read}
 use Rattle.table_cluster.specs.declared.gaps.End.{End}
 use Rattle.table_cluster.specs.Scan.{words_count}
@@ -34,18 +35,21 @@ use Rattle.table_read.specs.Read.{read_of}
 use Rattle.table_cluster.specs.Homes.{Housed, sound_housed}
 use Rattle.table_cluster.specs.Ends.{left_end}
 use Rattle.table_read.specs.FromLeft.{LeftCounted, read_from, read_from_lem, housed_beside}
+use Rattle.task_fits.specs.declared.phase.Phase.{Phase}
+use Rattle.task_fits.specs.declared.phase.Phase.TheVariants as phase
+use Rattle.task_fits.specs.Phase.{number_of}
 use Rattle.task_fits.specs.Ready.{Ready, right_within, right_small, ends_apart, guard_free}
 
 unfoldable pub after_read : Shape → Task → Read → Task
 after_read sh t read =
     cond read.held
     (to_phase 11 (with_answer 1 t))
-    (fill_from (which_end sh t.left t.right) read.smaller read.mark t)
+    (fill_from (which_end sh t.left t.right) read.smaller (number read.mark) t)
 
 pub after_entries :
     (sh : Shape) (t : Task) (e : Entry) (es : List Entry) → after_read sh t (read_of e es) ≡ read_entries sh t e es
 unfolding after_read read_entries read_of
-after_entries sh t e es = refl
+after_entries sh t e es = rw mark_number refl
 
 -- a place between two is occupied if all that lies between them is
 between_taken :
@@ -59,7 +63,7 @@ between_taken ws l r inside full q low high =
     ∙ all_at is_occupied (between ws l r) (q - suc l) zero_word full (omega (arith, length-slice (suc l) r ws inside))
 
 -- ---- what can be read is the cluster of the home, so that left is its left end
-module _ {sh : Shape} {bs : List ℕ} {t : Task} (now : Ready 7 sh bs t) (can : readable sh (words_of bs) t ≡ true) where
+module _ {sh : Shape} {bs : List ℕ} {t : Task} (now : Ready phase.Read sh bs t) (can : readable sh (words_of bs) t ≡ true) where
   abbrev ws : List Word
   ws = words_of bs
 
@@ -135,10 +139,10 @@ module _ {sh : Shape} {bs : List ℕ} {t : Task} (now : Ready 7 sh bs t) (can : 
       ∙ read_from_lem own bs t.left t.right after before within small housed
 
 pub goal_small :
-    {n : ℕ} {sh : Shape} {bytes : List ℕ} {t : Task} → Ready n sh bytes t → 3 ≤ n → (e : Entry) →
+    {p : Phase} {sh : Shape} {bytes : List ℕ} {t : Task} → Ready p sh bytes t → 3 ≤ number_of p → (e : Entry) →
     t.left + smaller e (entries_between (words_of bytes) t.left t.right) < 4294967295
 unfolding places right_guard
-goal_small {n} {sh} {bytes} {t} ready h e =
+goal_small {p} {sh} {bytes} {t} ready h e =
     let high = ready.fits.right_high (omega arith) in
     let size = words_length bytes (places sh) ready.size in
     let room = smaller_inside (words_of bytes) t.left t.right e (omega arith) in

@@ -4,6 +4,7 @@
 
 use rules::Task;
 
+mod answer;
 mod read;
 mod record;
 mod seek;

@@ -1,97 +1,125 @@
 // Phases 1 to 6: a busy task looks for the ends of its home's cluster and locks both, or fills an empty home.
 ghost use Rattle.rules.specs.Phase as phase;
+ghost use Rattle.task_fits.specs.declared.phase.Phase.TheVariants.{Home, LookLeft, LookRight, LockLeft, LockRight, BackOff};
 ghost use Rattle.task_fits.specs.Ready.{Ready};
 ghost use Rattle.task_fits.specs.Taken.{Follows};
 
 use crate::Busy;
-use crate::record::{again, to_phase, with_answer, with_left, with_right};
-use rules::{Refusal, Shape, Turn};
+use crate::answer::Answer;
+use crate::record::{again, to_phase};
+use rules::{Refusal, Task};
 use table_words::bytes::{set_word, word_at};
 use table_words::key::{home_place, remainder_of};
 use table_words::place::{Place, left_of, right_of};
+use table_words::shape::GoodShape;
 use table_words::word::{alone_word, is_zero, lock, occupied};
 use task_fits::lock::set_lock;
+use task_fits::phase::Phase;
 
 impl Busy {
-    pub fn home(self, sh: Shape, table: &mut [u8]) -> Turn
-        requires { Ready 1 sh table.old self.0 }
-        ensures { Follows phase.home sh self.0 table.old result table.new }
+    #[tactic(auto, unfolding(rules::specs::Phase::home, rules::specs::Record::home_place_of, rules::specs::Entry::split))]
+    pub fn home(self, sh: GoodShape, table: &mut [u8]) -> Result<Task, Refusal>
+        requires { Ready Home sh.shape table.old self.0 }
+        ensures { Follows phase.home sh.shape self.0 table.old result table.new }
     {
         let t = self.0;
         let h = home_place(sh, t.key);
         let w = word_at(table, h);
         // It begins again, and is there already.
         if lock(w) {
-            return Turn::Next(t);
+            return Ok(t);
         }
         if is_zero(w) {
             let alone = alone_word(remainder_of(sh, t.key));
             set_word(table, h, alone);
-            return Turn::Next(to_phase(with_answer(t, 2), 13));
+            return Ok(Task {
+                phase: Phase::Done.into(),
+                answer: Answer::Inserted.into(),
+                ..t
+            });
         }
         if occupied(w) {
-            return Turn::Next(to_phase(with_left(t, left_of(h)), 2));
+            return Ok(Task {
+                phase: Phase::LookLeft.into(),
+                left: left_of(h).0,
+                ..t
+            });
         }
-        Turn::Refused(Refusal::Unsound)
+        Err(Refusal::Unsound)
     }
 
-    pub fn look_left(self, sh: Shape, table: &[u8]) -> Turn
-        requires { Ready 2 sh table.now self.0 }
-        ensures { Follows phase.look_left sh self.0 table.now result table.now }
+    #[tactic(auto, unfolding(rules::specs::Phase::look_left, rules::specs::Record::home_place_of))]
+    pub fn look_left(self, sh: GoodShape, table: &[u8]) -> Result<Task, Refusal>
+        requires { Ready LookLeft sh.shape table.now self.0 }
+        ensures { Follows phase.look_left sh.shape self.0 table.now result table.now }
     {
         let t = self.0;
         let left = Place(t.left);
         if occupied(word_at(table, left)) {
-            return Turn::Next(with_left(t, left_of(left)));
+            return Ok(Task {
+                left: left_of(left).0,
+                ..t
+            });
         }
         let h = home_place(sh, t.key);
-        Turn::Next(to_phase(with_right(t, right_of(h)), 3))
+        Ok(Task {
+            phase: Phase::LookRight.into(),
+            right: right_of(h).0,
+            ..t
+        })
     }
 
-    pub fn look_right(self, sh: Shape, table: &[u8]) -> Turn
-        requires { Ready 3 sh table.now self.0 }
-        ensures { Follows phase.look_right sh self.0 table.now result table.now }
+    #[tactic(auto, unfolding(rules::specs::Phase::look_right))]
+    pub fn look_right(self, sh: GoodShape, table: &[u8]) -> Result<Task, Refusal>
+        requires { Ready LookRight sh.shape table.now self.0 }
+        ensures { Follows phase.look_right sh.shape self.0 table.now result table.now }
     {
         let t = self.0;
         let right = Place(t.right);
         if occupied(word_at(table, right)) {
-            return Turn::Next(with_right(t, right_of(right)));
+            return Ok(Task {
+                right: right_of(right).0,
+                ..t
+            });
         }
-        Turn::Next(to_phase(t, 4))
+        Ok(to_phase(t, Phase::LockLeft))
     }
 
-    pub fn lock_left(self, sh: Shape, table: &mut [u8]) -> Turn
-        requires { Ready 4 sh table.old self.0 }
-        ensures { Follows phase.lock_left sh self.0 table.old result table.new }
+    #[tactic(auto, unfolding(rules::specs::Phase::lock_left))]
+    pub fn lock_left(self, sh: GoodShape, table: &mut [u8]) -> Result<Task, Refusal>
+        requires { Ready LockLeft sh.shape table.old self.0 }
+        ensures { Follows phase.lock_left sh.shape self.0 table.old result table.new }
     {
         let t = self.0;
         let left = Place(t.left);
         if is_zero(word_at(table, left)) {
             set_lock(table, left, true);
-            return Turn::Next(to_phase(t, 5));
+            return Ok(to_phase(t, Phase::LockRight));
         }
-        Turn::Next(again(t))
+        Ok(again(t))
     }
 
-    pub fn lock_right(self, sh: Shape, table: &mut [u8]) -> Turn
-        requires { Ready 5 sh table.old self.0 }
-        ensures { Follows phase.lock_right sh self.0 table.old result table.new }
+    #[tactic(auto, unfolding(rules::specs::Phase::lock_right))]
+    pub fn lock_right(self, sh: GoodShape, table: &mut [u8]) -> Result<Task, Refusal>
+        requires { Ready LockRight sh.shape table.old self.0 }
+        ensures { Follows phase.lock_right sh.shape self.0 table.old result table.new }
     {
         let t = self.0;
         let right = Place(t.right);
         if is_zero(word_at(table, right)) {
             set_lock(table, right, true);
-            return Turn::Next(to_phase(t, 7));
+            return Ok(to_phase(t, Phase::Read));
         }
-        Turn::Next(to_phase(t, 6))
+        Ok(to_phase(t, Phase::BackOff))
     }
 
-    pub fn back_off(self, sh: Shape, table: &mut [u8]) -> Turn
-        requires { Ready 6 sh table.old self.0 }
-        ensures { Follows phase.back_off sh self.0 table.old result table.new }
+    #[tactic(auto, unfolding(rules::specs::Phase::back_off))]
+    pub fn back_off(self, sh: GoodShape, table: &mut [u8]) -> Result<Task, Refusal>
+        requires { Ready BackOff sh.shape table.old self.0 }
+        ensures { Follows phase.back_off sh.shape self.0 table.old result table.new }
     {
         let t = self.0;
         set_lock(table, Place(t.left), false);
-        Turn::Next(again(t))
+        Ok(again(t))
     }
 }

@@ -1,64 +1,36 @@
--- Give and step over lent records: what is asked of one record, and what is answered where there is none.
--- `give_stores`, `give_none_lem`: storing that record, or nothing, is the rules' give. The same of step.
+-- Give and step over lent records: what is answered where no record has the task number, and nothing changes.
+-- `give_stores`, `give_keeps`, `give_bad`: the record that follows is stored, or it stays, or there is none. Step too.
 -- `give_all`, `step_all`: the calls on the first n of sixteen records that a caller keeps by value.
 -- Assumes nothing.
 use Rattle.std.specs.Prelude.{ℕ, ◌≤◌, ◌<◌, ◌≡◌, Bool, List, ◌++◌, length, set, take, drop, ltb, leb}
 use Rattle.std.proofs.Math.Path.{refl, ap}
 use Rattle.std.proofs.Common.{sym, ◌∙◌}
-use Rattle.std.proofs.Math.Bool.{true, false, cond, and-true, and-false}
+use Rattle.std.proofs.Math.Bool.{true, false, cond}
 use Rattle.std.proofs.lemmas.List.{set-get_or}
-use borrow.Author.Tests.{lt-ltb, le-ltb, le-leb, lt-leb}
+use borrow.Author.Tests.{le-leb, lt-leb}
 use Rattle.rules.specs.declared.Shape.{Shape}
 use Rattle.rules.specs.declared.Task.{Task}
-use Rattle.rules.specs.declared.Turn.{Turn}
-use Rattle.rules.specs.declared.Turn.TheVariants.{Next, Refused}
 use Rattle.rules.specs.Shape.{in_range, keys, good_table}
-use Rattle.rules.specs.Answer.{Answer, refuses, Leaves, leaves, turn_says}
+use Rattle.rules.specs.Answer.{Answer, refuses, Leaves, leaves}
 use Rattle.rules.specs.Give.{stored_at, give}
 use Rattle.rules.specs.Record.{no_task, task_at, good_task}
 use Rattle.rules.specs.Step.{Lent, step}
+use Rattle.theory.specs.Record.{good_task_lem}
 use Rattle.task_step.specs.Given.{give_one, give_one_lem}
-use Rattle.task_step.specs.Stepping.{Left, step_says, step_one, lent_of, step_one_lem}
+use Rattle.task_step.specs.Stepping.{step_one, lent_of, step_one_lem}
 
 -- give, where no record has the task number
 unfoldable pub give_none : Shape → ℕ → Answer
 give_none sh key =
     cond (in_range sh) (cond (ltb key (keys sh)) (refuses 3) (refuses 2)) (refuses 1)
 
--- give, where one of n records has it
-unfoldable pub give_at : Shape → ℕ → ℕ → Task → Leaves Task
-give_at sh key n t = cond (leb n 16) (give_one sh key t) (leaves (give_none sh key) t)
-
--- an answer and a record, beside the lent bytes
-abbrev pub beside : List ℕ → Leaves Task → Leaves Left
-beside bytes (leaves a t) = leaves a (record { table = bytes; task = t })
-
-pub turn_beside : (bytes : List ℕ) (t : Task) (x : Turn) → beside bytes (turn_says t x) ≡ step_says t x bytes
-turn_beside bytes t (Next u) = refl
-turn_beside bytes t (Refused n) = refl
-
 -- step, where no record has the task number
 unfoldable pub step_none : Shape → ℕ → Answer
 step_none sh len = cond (good_table sh len) (refuses 3) (refuses 1)
 
--- step, where one of n records has it
-unfoldable pub step_at : Shape → List ℕ → ℕ → Task → Leaves Left
-step_at sh bytes n t =
-    cond (leb n 16) (step_one sh bytes t) (leaves (step_none sh (length bytes)) (record { table = bytes; task = t }))
-
--- whether a record has the task number, by the count of the records
-module _ (ts : List Task) (i : ℕ) where
-  good_few : (few : Bool) → leb (length ts) 16 ≡ few → i < length ts → good_task ts i ≡ few
-  unfolding good_task
-  good_few few e near = rw (e, lt-ltb i (length ts) near) (and-true few)
-
-  far_bad : length ts ≤ i → good_task ts i ≡ false
-  unfolding good_task
-  far_bad far = rw (le-ltb i (length ts) far) (and-false (leb (length ts) 16))
-
 module _ (sh : Shape) (key : ℕ) (ts : List Task) (i : ℕ) where
   -- no record has the task number: nothing changes
-  give_bad : good_task ts i ≡ false → leaves (give_none sh key) ts ≡ give sh key ts i
+  pub give_bad : good_task ts i ≡ false → leaves (give_none sh key) ts ≡ give sh key ts i
   unfolding give_none give
   give_bad bad = rw bad (go (in_range sh) (ltb key (keys sh)))
     where
@@ -69,26 +41,23 @@ module _ (sh : Shape) (key : ℕ) (ts : List Task) (i : ℕ) where
       go true false = refl
       go false small = refl
 
-  pub give_none_lem : length ts ≤ i → (a : Answer) → a ≡ give_none sh key → leaves a ts ≡ give sh key ts i
-  give_none_lem far a e = ap (λ (z : Answer). leaves z ts) e ∙ give_bad (far_bad ts i far)
+  -- one has it: what give on it leaves is stored back
+  pub give_stores : length ts ≤ 16 → i < length ts → (a : Answer) (t : Task) → leaves a t
+      ≡ give_one sh key (task_at ts i) → leaves a (set ts i t) ≡ give sh key ts i
+  give_stores few near a t e =
+      ap (stored_at ts i) e ∙ sym (give_one_lem sh key ts i (good_task_lem ts i few near))
 
-  stored : (few : Bool) → leb (length ts) 16 ≡ few → i < length ts →
-      stored_at ts i (cond few (give_one sh key (task_at ts i)) (leaves (give_none sh key) (task_at ts i)))
-      ≡ give sh key ts i
-  stored true e near = sym (give_one_lem sh key ts i (good_few ts i true e near))
-  stored false e near = ap (leaves (give_none sh key)) (set-get_or ts i no_task) ∙ give_bad (good_few ts i false e near)
-
-  pub give_stores : i < length ts → (a : Answer) (t : Task) → leaves a t ≡ give_at sh key (length ts) (task_at ts i)
-      → leaves a (set ts i t) ≡ give sh key ts i
-  unfolding give_at
-  give_stores near a t e = ap (stored_at ts i) e ∙ stored (leb (length ts) 16) refl near
+  -- or it stays as it was
+  pub give_keeps : length ts ≤ 16 → i < length ts → (a : Answer) → leaves a (task_at ts i)
+      ≡ give_one sh key (task_at ts i) → leaves a ts ≡ give sh key ts i
+  give_keeps few near a e = sym (ap (leaves a) (set-get_or ts i no_task)) ∙ give_stores few near a (task_at ts i) e
 
 -- nothing lent changes
 abbrev still : Answer → List ℕ → List Task → Leaves Lent
 still a bytes ts = leaves a (record { table = bytes; tasks = ts })
 
 module _ (sh : Shape) (bytes : List ℕ) (ts : List Task) (i : ℕ) where
-  step_bad : good_task ts i ≡ false → still (step_none sh (length bytes)) bytes ts ≡ step sh bytes ts i
+  pub step_bad : good_task ts i ≡ false → still (step_none sh (length bytes)) bytes ts ≡ step sh bytes ts i
   unfolding step_none step
   step_bad bad = rw bad (go (good_table sh (length bytes)))
     where
@@ -98,24 +67,17 @@ module _ (sh : Shape) (bytes : List ℕ) (ts : List Task) (i : ℕ) where
       go true = refl
       go false = refl
 
-  pub step_none_lem : length ts ≤ i → (a : Answer) → a ≡ step_none sh (length bytes) → still a bytes ts
-      ≡ step sh bytes ts i
-  step_none_lem far a e = ap (λ (z : Answer). still z bytes ts) e ∙ step_bad (far_bad ts i far)
-
-  stored_beside : (few : Bool) → leb (length ts) 16 ≡ few → i < length ts →
-      lent_of ts i
-      (cond few (step_one sh bytes (task_at ts i))
-      (leaves (step_none sh (length bytes)) (record { table = bytes; task = task_at ts i })))
-      ≡ step sh bytes ts i
-  stored_beside true e near = sym (step_one_lem sh bytes ts i (good_few ts i true e near))
-  stored_beside false e near =
-      ap (still (step_none sh (length bytes)) bytes) (set-get_or ts i no_task) ∙ step_bad (good_few ts i false e near)
-
-  pub step_stores : i < length ts → (a : Answer) (after : List ℕ) (t : Task)
-      → leaves a (record { table = after; task = t }) ≡ step_at sh bytes (length ts) (task_at ts i)
+  pub step_stores : length ts ≤ 16 → i < length ts → (a : Answer) (after : List ℕ) (t : Task)
+      → leaves a (record { table = after; task = t }) ≡ step_one sh bytes (task_at ts i)
       → still a after (set ts i t) ≡ step sh bytes ts i
-  unfolding step_at
-  step_stores near a after t e = ap (lent_of ts i) e ∙ stored_beside (leb (length ts) 16) refl near
+  step_stores few near a after t e =
+      ap (lent_of ts i) e ∙ sym (step_one_lem sh bytes ts i (good_task_lem ts i few near))
+
+  pub step_keeps : length ts ≤ 16 → i < length ts → (a : Answer) (after : List ℕ)
+      → leaves a (record { table = after; task = task_at ts i }) ≡ step_one sh bytes (task_at ts i)
+      → still a after ts ≡ step sh bytes ts i
+  step_keeps few near a after e =
+      sym (ap (still a after) (set-get_or ts i no_task)) ∙ step_stores few near a after (task_at ts i) e
 
 -- sixteen records of which the first n are lent: what is left of them, before those that were not
 abbrev front : ℕ → List Task → Leaves (List Task) → Leaves (List Task)

