@@ -1,3 +1,3 @@
--- What the contracts of this crate cite, and the laws of its loop and branches.
+-- What the contracts of this crate cite: the refusals of a call on a run, and the bytes that are held.
 pub mod Check
 pub mod Hold

@@ -2,52 +2,34 @@
 // 9 where a line or what is printed could not be held.
 ghost use Rattle.std.specs.Prelude.{◌≡◌};
 ghost use Rattle.rules.specs.Answer.{done_says};
-ghost use Rattle.frame_rules.specs.Feed.{good_shape_at, good_tasks_at};
-ghost use Rattle.frame_buffers.specs.Check.{refusal_by};
+ghost use Rattle.frame_buffers.specs.Check.{refusal_at, refusal_by};
 
 use frame_first::first::{shape_in_limits, tasks_in_limits};
 use frame_rules::{Run, Stage};
-use rules::{Done, Refusal};
+use rules::Refusal;
 
-// Among frames, the shape is within the first line's limits.
-fn shape_fine(stage: Stage) -> bool
-    ensures { result ≡ good_shape_at stage }
+// Among frames, the shape and the number of tasks are within the first line's limits.
+fn check_stage(stage: Stage) -> Result<(), Refusal>
+    ensures { (done_says result).number ≡ refusal_at stage }
 {
     match stage {
-        Stage::AtFirst => true,
-        Stage::Among(f) => shape_in_limits(f.shape),
-        Stage::Ended => true,
-    }
-}
-
-// And so is the number of tasks.
-fn tasks_fine(stage: Stage) -> bool
-    ensures { result ≡ good_tasks_at stage }
-{
-    match stage {
-        Stage::AtFirst => true,
-        Stage::Among(f) => tasks_in_limits(f.tasks),
-        Stage::Ended => true,
+        Stage::Among(f) if !shape_in_limits(f.shape) => Err(Refusal::BadShape),
+        Stage::Among(f) if !tasks_in_limits(f.tasks) => Err(Refusal::BadTask),
+        _ => Ok(()),
     }
 }
 
 // The lengths are those of the line's buffer, the table and the output.
-pub fn check(run: Run, line: usize, table: usize, out: usize) -> Done
+#[tactic(auto, unfolding(crate::specs::Check::refusal_by))]
+pub fn check(run: Run, line: usize, table: usize, out: usize) -> Result<(), Refusal>
     ensures { (done_says result).number ≡ refusal_by run line table out }
 {
-    let stage = run.stage;
-    if shape_fine(stage) {
-        if table == 32772 {
-            if tasks_fine(stage) {
-                if 4096 <= line {
-                    if 66570 <= out {
-                        return Done::Accepted;
-                    }
-                }
-                return Done::Refused(Refusal::TooFewSlots);
-            }
-            return Done::Refused(Refusal::BadTask);
-        }
+    if table != 32772 {
+        return Err(Refusal::BadShape);
     }
-    Done::Refused(Refusal::BadShape)
+    check_stage(run.stage)?;
+    if line < 4096 || out < 66570 {
+        return Err(Refusal::TooFewSlots);
+    }
+    Ok(())
 }

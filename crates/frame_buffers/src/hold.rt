@@ -3,32 +3,17 @@ ghost use Rattle.std.specs.Prelude.{◌≡◌, ◌++◌, ◌+◌, ◌≤◌, len
 ghost use Rattle.frame_rules.specs.Feed.{held_after, line_after};
 ghost use Rattle.frame_buffers.specs.Hold.{holding};
 
-// More bytes, from a place of the line on.
-fn append(line: &mut [u8], held: usize, more: &[u8])
-    requires { held + length more.now ≤ length line.old }
-    ensures { line.new
-        ≡ take held line.old ++ more.now
-        ++ drop (held + length more.now) line.old }
-{
-    let mut i = 0;
-    while i < more.len() {
-        line[held + i] = more[i];
-        i += 1;
-    }
-}
-
 // How many bytes are held afterwards; more than 4,096 stands for a line that is too long.
+#[tactic(auto, unfolding(frame_rules::specs::Feed::held_after, frame_rules::specs::Feed::line_after))]
 pub fn hold(line: &mut [u8], held: usize, more: &[u8]) -> usize
     requires { 4096 ≤ length line.old }
     ensures { holding result line.new
         ≡ holding (held_after held (length more.now))
         (line_after line.old held more.now) }
 {
-    if held <= 4096 {
-        if more.len() <= 4096 - held {
-            append(line, held, more);
-            return held + more.len();
-        }
+    if held <= 4096 && more.len() <= 4096 - held {
+        line[held..held + more.len()].copy_from_slice(more);
+        return held + more.len();
     }
     4097
 }

@@ -4,24 +4,14 @@
 use Prim.Native.Nat.{ℕ, zero, suc, ◌+◌, ◌*◌, ◌/◌, ◌%◌, ◌≤◌, ◌<◌}
 use Rattle.std.specs.Prelude.{◌≡◌, get_or, set, take, drop}
 use Rattle.std.proofs.Math.Path.{refl, ap₂}
-use Rattle.std.proofs.Common.{sym, ap, ◌∙◌, add-one, arith, le-leb, length-append, length-set, take-suc, drop-cons, length-take-le}
+use Rattle.std.proofs.Common.{sym, ap, ◌∙◌, add-one, arith, length-append, length-set, take-suc, drop-cons, length-take-le, drop-drop, get_or-take, get_or-drop}
 use mathlib.Core.List.{List, [], ◌∷◌, ◌++◌, append_assoc}
-use Rattle.std.proofs.lemmas.Bool.{lt-leb}
 use Rattle.std.proofs.Math.ListN.{length}
 use Rattle.std.proofs.Math.Seq.{take_all, append_snoc}
 use Rattle.std.proofs.lemmas.List.{set_at}
+use Rattle.std.specs.Simd.{first_chunks}
 use Rattle.rules.specs.Lists.{at_front}
 use Rattle.frame_rules.specs.Digits.{glyph, digits_of, word_digits}
-
--- ---- a digit
-
-pub low_glyph : (d : ℕ) → d < 10 → 48 + d ≡ glyph d
-unfolding glyph
-low_glyph d low = rw (le-leb d 9 (omega arith))
-
-pub high_glyph : (d : ℕ) → 10 ≤ d → 55 + d ≡ glyph d
-unfolding glyph
-high_glyph d high = rw (lt-leb d 9 (omega arith))
 
 -- ---- lengths
 
@@ -139,6 +129,22 @@ words_whole (b ∷ c ∷ bs) (suc w) is =
     let two : 2 * suc w ≡ suc (suc (2 * w)) = omega arith in
     rw two (rw (words_whole bs w (omega arith)))
 
+-- a table's words are its pairs of bytes
+pair_at : (bs : List ℕ) (n i : ℕ) → i < n → get_or (first_chunks 2 n bs) i [] ≡ take 2 (drop (2 * i) bs)
+pair_at bs zero i here = absurd (omega arith)
+pair_at bs (suc n) zero here = refl
+pair_at bs (suc n) (suc i) here =
+    let two : 2 + 2 * i ≡ 2 * suc i = omega arith in
+    pair_at (drop 2 bs) n i (omega arith)
+    ∙ ap (take 2) (drop-drop (2 * i) 2 bs ∙ ap (λ (k : ℕ). drop k bs) two)
+
+pub byte_at :
+    (bs : List ℕ) (n i k : ℕ) → i < n → k < 2 → get_or (get_or (first_chunks 2 n bs) i []) k 0 ≡ get_or bs (2 * i + k) 0
+byte_at bs n i k here low =
+    ap (λ (l : List ℕ). get_or l k 0) (pair_at bs n i here)
+    ∙ get_or-take 2 (drop (2 * i) bs) k 0 low
+    ∙ get_or-drop (2 * i) bs k 0
+
 -- i words are printed
 pub record Wording (bytes out₀ : List ℕ) (i : ℕ) (out : List ℕ) : Type 0 where
   pub reached : i ≤ length bytes / 2
@@ -158,16 +164,18 @@ module _ (bytes out₀ : List ℕ) (room : 2 * length bytes ≤ length out₀) w
     written = omega (arith, words_length (take (2 * i) bytes), ap (λ (n : ℕ). 4 * (n / 2)) begun)
 
     pub wording_on :
+        (words : List (List ℕ)) →
+        words ≡ first_chunks 2 (length bytes / 2) bytes →
         i < length bytes / 2 →
         (mid next : List ℕ) →
         mid
-        ≡ set (set out (4 * i) (glyph (get_or bytes (2 * i + 1) 0 / 16))) (4 * i + 1)
-        (glyph (get_or bytes (2 * i + 1) 0 % 16)) →
+        ≡ set (set out (4 * i) (glyph (get_or (get_or words i []) 1 0 / 16))) (4 * i + 1)
+        (glyph (get_or (get_or words i []) 1 0 % 16)) →
         next
-        ≡ set (set mid (4 * i + 2) (glyph (get_or bytes (2 * i) 0 / 16))) (4 * i + 2 + 1)
-        (glyph (get_or bytes (2 * i) 0 % 16)) →
+        ≡ set (set mid (4 * i + 2) (glyph (get_or (get_or words i []) 0 0 / 16))) (4 * i + 2 + 1)
+        (glyph (get_or (get_or words i []) 0 0 % 16)) →
         Wording bytes out₀ (i + 1) next
-    wording_on more mid next first second =
+    wording_on words are more mid next first second =
         record {
           reached = omega arith;
           size = rw (second, length-set, length-set, first, length-set, length-set) p.size;
@@ -182,10 +190,14 @@ module _ (bytes out₀ : List ℕ) (room : 2 * length bytes ≤ length out₀) w
         }
       where
         low : ℕ
-        low = get_or bytes (2 * i) 0
+        low = get_or (get_or words i []) 0 0
 
         high : ℕ
-        high = get_or bytes (2 * i + 1) 0
+        high = get_or (get_or words i []) 1 0
+
+        at_half : (k : ℕ) → k < 2 → get_or bytes (2 * i + k) 0 ≡ get_or (get_or words i []) k 0
+        at_half k half =
+            sym (ap (λ (ps : List (List ℕ)). get_or (get_or ps i []) k 0) are ∙ byte_at bytes (length bytes / 2) i k more half)
 
         store : List ℕ → ℕ → ℕ → List ℕ
         store l n b = set (set l n (glyph (b / 16))) (n + 1) (glyph (b % 16))
@@ -202,12 +214,15 @@ module _ (bytes out₀ : List ℕ) (room : 2 * length bytes ≤ length out₀) w
         taken : take (2 * (i + 1)) bytes ≡ take (2 * i) bytes ++ low ∷ high ∷ []
         taken =
             let two : 2 * (i + 1) ≡ suc (suc (2 * i)) = omega arith in
+            let none : 2 * i + 0 ≡ 2 * i = omega arith in
             rw (
               two,
               take-suc bytes (suc (2 * i)) 0 (omega arith),
               take-suc bytes (2 * i) 0 (omega arith),
-              add-one (2 * i),
-              append_assoc (take (2 * i) bytes) (low ∷ []) (get_or bytes (suc (2 * i)) 0 ∷ []),
+              ← add-one (2 * i),
+              at_half 1 (omega arith),
+              rw none at (at_half 0 (omega arith)),
+              append_assoc (take (2 * i) bytes) (low ∷ []) (high ∷ []),
             )
 
         text : text₁ ++ glyph (low / 16) ∷ glyph (low % 16) ∷ [] ≡ word_digits (take (2 * (i + 1)) bytes)

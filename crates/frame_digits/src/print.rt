@@ -6,13 +6,14 @@ ghost use Rattle.frame_rules.specs.Digits.{digits_of, word_digits};
 ghost use Rattle.frame_rules.specs.Digits as digits;
 
 // The capital digit of a number below 16.
+#[tactic(auto, using(std::proofs::lemmas::Bool::Decides::nat_tests), unfolding(frame_rules::specs::Digits::glyph))]
 pub fn glyph(d: u8) -> u8
     requires { d < 16 }
     ensures { result ≡ digits.glyph d }
 {
     match d {
-        0..=9 => 48 + d,
-        _ => 55 + d,
+        0..=9 => b'0' + d,
+        _ => b'A' + d - 10,
     }
 }
 
@@ -31,10 +32,8 @@ pub fn put_bytes(bytes: &[u8], out: &mut [u8])
     requires { 2 * length bytes.now ≤ length out.old }
     ensures { out.new ≡ at_front (digits_of bytes.now) out.old }
 {
-    let mut i = 0;
-    while i < bytes.len() {
-        put_byte(out, 2 * i, bytes[i]);
-        i += 1;
+    for (i, b) in bytes.iter().enumerate() {
+        put_byte(out, 2 * i, *b);
     }
 }
 
@@ -43,12 +42,9 @@ pub fn put_words(table: &[u8], out: &mut [u8])
     requires { 2 * length table.now ≤ length out.old }
     ensures { out.new ≡ at_front (word_digits table.now) out.old }
 {
-    let mut i = 0;
-    while i < table.len() / 2 {
-        let low = table[2 * i];
-        let high = table[2 * i + 1];
-        put_byte(out, 4 * i, high);
-        put_byte(out, 4 * i + 2, low);
-        i += 1;
+    let (words, _) = table.as_chunks::<2>();
+    for (i, [low, high]) in words.iter().enumerate() {
+        put_byte(out, 4 * i, *high);
+        put_byte(out, 4 * i + 2, *low);
     }
 }

@@ -1,49 +1,62 @@
 // Digits read: what a digit is worth, whether a text is all digits, and the number that some digits write.
 // Both letter cases are read.
-ghost use Rattle.std.specs.Prelude.{◌≡◌, true, ◌+◌, ◌≤◌, length, take, drop};
+ghost use Rattle.std.specs.Prelude.{◌≡◌, true, ◌+◌, ◌^◌, ◌≤◌, ◌<◌, length, take, drop, is_some, IfSome};
 ghost use Rattle.rules.specs.Lists.{all};
 ghost use Rattle.frame_rules.specs.Digits.{is_digit};
 ghost use Rattle.frame_rules.specs.Digits as digits;
-ghost use Rattle.frame_digits.specs.Read.{digit_or};
+ghost use Rattle.frame_digits.specs.Read.{digit};
 
-// What a digit is worth; 16 where the byte is none.
-pub fn digit(c: u8) -> u8
-    ensures { result ≡ digit_or c }
+// What a digit is worth, if the byte is one.
+#[tactic(auto, using(std::proofs::lemmas::Bool::Decides::nat_tests), unfolding(crate::specs::Read::digit, frame_rules::specs::Digits::is_digit, frame_rules::specs::Digits::worth))]
+pub fn digit(c: u8) -> Option<u8>
+    ensures { result ≡ digit c }
 {
     match c {
-        48..=57 => c - 48,
-        65..=70 => c - 55,
-        97..=102 => c - 87,
-        _ => 16,
+        b'0'..=b'9' => Some(c - b'0'),
+        b'A'..=b'F' => Some(c - b'A' + 10),
+        b'a'..=b'f' => Some(c - b'a' + 10),
+        _ => None,
     }
 }
 
 pub fn all_digits(s: &[u8]) -> bool
     ensures { result ≡ all is_digit s.now }
 {
-    let mut i = 0;
-    while i < s.len() {
-        if digit(s[i]) < 16 {
-            i += 1;
-        } else {
-            return false;
-        }
-    }
-    true
+    s.iter().all(|c| digit(*c).is_some())
 }
 
-// The number that n digits write, from the place `at` of a text of digits, the highest first.
-pub fn number(s: &[u8], at: usize, n: usize) -> u32
-    requires fact_1 { n ≤ 8 }
-    requires fact_2 { at + n ≤ length s.now }
-    requires fact_3 { all is_digit s.now ≡ true }
-    ensures { result ≡ digits.number (take n (drop at s.now)) }
-{
-    let mut k: u32 = 0;
-    let mut j: usize = 0;
-    while j < n {
-        k = 16 * k + digit(s[at + j]) as u32;
-        j += 1;
+// A text of digits alone.
+#[derive(Clone, Copy)]
+pub struct Digits<'a> {
+    pub text: &'a [u8],
+    pub ghost good: { all is_digit text.now ≡ true },
+}
+
+impl<'a> Digits<'a> {
+    // The text, if each of its bytes is a digit.
+    pub fn read(text: &'a [u8]) -> Option<Digits<'a>>
+        ensures good { is_some result ≡ all is_digit text.now }
+        ensures text { IfSome result (λ d. d.text.now ≡ text.now) }
+    {
+        if all_digits(text) {
+            Some(Digits { text })
+        } else {
+            None
+        }
     }
-    k
+
+    // The number that n digits write, from the place `at` on, the highest first.
+    pub fn number(self, at: usize, n: usize) -> u32
+        requires few { n ≤ 8 }
+        requires inside { at + n ≤ length self.text.now }
+        ensures value { result ≡ digits.number (take n (drop at self.entry.text.now)) }
+        ensures low { result < 16 ^ n }
+    {
+        let part = &self.text[at..at + n];
+        let mut k = 0;
+        for c in part {
+            k = 16 * k + u32::from(digit(*c).unwrap());
+        }
+        k
+    }
 }

@@ -1,20 +1,15 @@
--- A table's line read. `Storing`: the invariant of its words stored one by one, with its laws; `word_low`: a word's two
--- bytes fit theirs. `table-..`: the line by its tests.
+-- A table's line read. `Storing`: the invariant of its words stored one by one, with its laws; `word_bytes`: a word's
+-- two bytes.
 -- Assumes nothing.
-use Rattle.std.specs.Prelude.{ℕ, zero, suc, ◌+◌, ◌*◌, ◌/◌, ◌%◌, ◌≤◌, ◌<◌, ◌≡◌, Bool, true, false, set, take, drop}
-use Rattle.std.proofs.Math.Path.{refl, sym, ap}
+use Rattle.std.specs.Prelude.{ℕ, zero, suc, ◌+◌, ◌*◌, ◌/◌, ◌%◌, ◌≤◌, ◌<◌, ◌≡◌, set, get_or, take, drop}
+use Rattle.std.proofs.Math.Path.{refl, ap}
 use Rattle.std.proofs.Common.{ap₂, ◌∙◌, add-one, arith, length-set, drop_of_length-le, drop-drop}
 use mathlib.Core.List.{List, [], ◌∷◌, ◌++◌, append-nil}
 use Rattle.std.proofs.Math.ListN.{length}
-use borrow.Author.Tests.{eq-eqb, ne_eqb}
-use Rattle.rules.specs.declared.Shape.{Shape}
-use Rattle.rules.specs.Lists.{all}
-use Rattle.rules.specs.Shape.{places, good_table}
-use Rattle.table_words.specs.Range.{good_table_lem}
-use Rattle.frame_rules.specs.Digits.{is_digit, number}
-use Rattle.frame_rules.specs.TableLine.{good_table_line, first_words, table_of_line, table_read, read_table}
+use Rattle.std.specs.Int.{w16, to_le_bytes}
+use Rattle.frame_rules.specs.Digits.{number}
+use Rattle.frame_rules.specs.TableLine.{first_words, table_of_line}
 use Rattle.frame_digits.specs.Print.{front, two_more}
-use Rattle.frame_digits.specs.Read.{number_low}
 
 -- ---- the words of a line, by number
 -- the number that word i is
@@ -38,6 +33,14 @@ words_snoc (suc n) line =
     drop-drop (4 * n) 4 line ∙ ap (λ (k : ℕ). drop k line) place in
     rw (words_snoc n (drop 4 line), same)
 
+-- a word's two bytes, as the library has them
+pub word_bytes :
+    (w : ℕ) → w < 65536 → (bytes : List ℕ) → bytes ≡ to_le_bytes w16 w →
+    (get_or bytes 0 0 ≡ w % 256) × (get_or bytes 1 0 ≡ w / 256)
+word_bytes w low bytes are =
+    let second : w / 256 % 256 ≡ w / 256 = omega arith in
+    (ap (λ (bs : List ℕ). get_or bs 0 0) are, ap (λ (bs : List ℕ). get_or bs 1 0) are ∙ second)
+
 -- ---- the loop: i words are stored
 pub record Storing (line table₀ : List ℕ) (n i : ℕ) (table : List ℕ) : Type 0 where
   pub reached : i ≤ n
@@ -48,10 +51,6 @@ module _ (line table₀ : List ℕ) (n : ℕ) (long : length line ≡ 4 * n) (ro
   pub storing_begins : Storing line table₀ n 0 table₀
   unfolding first_words
   storing_begins = record { reached = omega arith; size = room; stored = refl }
-
-  -- a word's two bytes
-  pub word_low : all is_digit line ≡ true → (i : ℕ) → i < n → word_at line i < 65536
-  word_low digits i here = number_low line (4 * i) 4 (omega arith) (omega arith) digits
 
   module _ {i : ℕ} {table : List ℕ} (inv : Storing line table₀ n i table) where
     pub storing_on :
@@ -81,34 +80,3 @@ module _ (line table₀ : List ℕ) (n : ℕ) (long : length line ≡ 4 * n) (ro
         ∙ ap (λ (l : List ℕ). first_words i line ++ l) (drop_of_length-le table₀ {i = 2 * i} (omega arith))
         ∙ append-nil (first_words i line)
         ∙ ap (λ (k : ℕ). first_words k line) whole
-
--- ---- the line by its tests
-module _ (sh : Shape) (line table : List ℕ) (fine : Bool) (fits : fine ≡ good_table sh (length table)) where
-  pub table_unfit : fine ≡ false → table_read false table ≡ read_table sh line table
-  unfolding read_table
-  table_unfit e = rw (sym fits ∙ e)
-
-  module _ (fit : fine ≡ true) where
-    sized : length table ≡ 2 * places sh
-    sized = (good_table_lem sh (length table) (sym fits ∙ fit)).1
-
-    pub table_half : length table ≡ 2 * (length table / 2)
-    table_half = omega (arith, sized)
-
-    pub table_length : (length line ≡ 2 * length table → ⊥) → table_read false table ≡ read_table sh line table
-    unfolding read_table good_table_line
-    table_length other =
-        rw (sym fits ∙ fit, ne_eqb (length line) (4 * places sh) (λ e. other (omega (arith, sized))))
-
-    module _ (long : length line ≡ 2 * length table) (d : Bool) (asked : d ≡ all is_digit line) where
-      four : length line ≡ 4 * places sh
-      four = omega (arith, sized)
-
-      pub table_other : d ≡ false → table_read false table ≡ read_table sh line table
-      unfolding read_table good_table_line
-      table_other e = rw (sym fits ∙ fit, eq-eqb (length line) (4 * places sh) four, sym asked ∙ e)
-
-      pub table_good :
-          d ≡ true → (after : List ℕ) → after ≡ table_of_line line → table_read true after ≡ read_table sh line table
-      unfolding read_table good_table_line
-      table_good e after is = rw (sym fits ∙ fit, eq-eqb (length line) (4 * places sh) four, sym asked ∙ e, is)

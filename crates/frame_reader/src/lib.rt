@@ -15,15 +15,11 @@ pub struct Reader<'a> {
 fn length_from(src: &[u8], at: usize) -> usize
     ensures { result ≡ line_length (drop at src.now) }
 {
-    let mut i = at;
-    while i < src.len() {
-        let next = i + 1;
-        if src[i] == 10 {
-            return i - at;
-        }
-        i = next;
+    if src.len() <= at {
+        return 0;
     }
-    i - at
+    let rest = &src[at..];
+    rest.iter().position(|b| *b == b'\n').unwrap_or(rest.len())
 }
 
 pub fn reader_at<'a>(src: &'a [u8], at: usize) -> Reader<'a>
@@ -37,11 +33,9 @@ pub fn past_line<'a>(r: Reader<'a>) -> Reader<'a>
     ensures { (result.src ≡ r.entry.src)
         × (result.at ≡ r.entry.at + line_length (drop r.entry.at r.entry.src.now)) }
 {
-    let src = r.src;
-    let at = r.at;
     Reader {
-        src,
-        at: at + length_from(src, at),
+        at: r.at + length_from(r.src, r.at),
+        ..r
     }
 }
 

@@ -1,8 +1,9 @@
 -- One line as a call (a line's bytes in; passed over, ended, or the answers), with every lent byte and slot as it
 -- leaves them. It stands apart from the reading of input.
 -- Assumes nothing.
-use Rattle.std.specs.Prelude.{ℕ, cond, List, ◌++◌, length, drop, leb}
+use Rattle.std.specs.Prelude.{ℕ, cond, List, ◌++◌, length, drop, leb, Result, Ok, Err}
 use Rattle.rules.specs.Shape.{good_table}
+use Rattle.rules.specs.declared.Refusal.{Refusal}
 use Rattle.rules.specs.Answer.{number_of_refusal}
 use Rattle.frame_rules.specs.declared.First.{First}
 use Rattle.frame_rules.specs.declared.LineAnswer.{LineAnswer}
@@ -23,11 +24,11 @@ pub record Line : Type 0 where
   pub table : List ℕ
   pub slots : List ℕ
 
-abbrev pub line_says : LineAnswer → Came
-line_says line_answer.PassedOver = passed_over
-line_says line_answer.Ended = ended
-line_says (line_answer.Answered n) = answered n
-line_says (line_answer.Refused n) = refused (number_of_refusal n)
+abbrev pub line_says : Result LineAnswer Refusal → Came
+line_says (Ok line_answer.PassedOver) = passed_over
+line_says (Ok line_answer.Ended) = ended
+line_says (Ok (line_answer.Answered n)) = answered n
+line_says (Err n) = refused (number_of_refusal n)
 
 -- nothing lent changes
 abbrev pub left_alone : Came → List ℕ → List ℕ → Line

@@ -2,7 +2,7 @@
 -- one claim that the definitions print what the paper says: the whole output of each input. `first_lines`,
 -- `table_lines`: a first line and a table's line, read by themselves.
 -- Assumes nothing.
-use Rattle.std.specs.Prelude.{ℕ, ◌≡◌, refl, true, false, List, [], ◌∷◌, map, replicate}
+use Rattle.std.specs.Prelude.{ℕ, ◌≡◌, refl, true, false, List, [], ◌∷◌, map, replicate, None, Some}
 use Prim.Native.Char.{code}
 use Prim.Native.String as string
 use Prim.Native.String.{String}
@@ -20,7 +20,6 @@ use Rattle.rules.specs.Phase.{moves_on, fill_hand, neighbour, exchange, move, se
 use Rattle.rules.specs.Phase.{free_left, free_right}
 use Rattle.rules.specs.Step.{of_phase, step_of, step}
 use Rattle.rules.specs.Give.{given, give_to, give}
-use Rattle.frame_rules.specs.declared.FirstLine.TheVariants.{Good, Bad}
 use Rattle.frame_rules.specs.Digits.{is_digit, worth, number_after, number, glyph, digits_of, word_digits}
 use Rattle.frame_rules.specs.Lines.{lines_after, lines_of, first_of, shape_in_limits, tasks_in_limits, in_limits, first}
 use Rattle.frame_rules.specs.Lines.{good_first, read_first, first_keys, keys_of, good_line}
@@ -106,7 +105,7 @@ rows_hold = refl
 -- first lines, read by themselves
 pub first_lines :
     map (λ (text : String). read_first (bytes text)) ("030402" ∷ "0e0C10" ∷ "0F0C10" ∷ "0304020" ∷ "03040G" ∷ "" ∷ [])
-    ≡ Good (first 3 4 2) ∷ Good (first 14 12 16) ∷ Bad ∷ Bad ∷ Bad ∷ Bad ∷ []
+    ≡ Some (first 3 4 2) ∷ Some (first 14 12 16) ∷ None ∷ None ∷ None ∷ None ∷ []
 unfolding all is_digit worth number_after number first_of shape_in_limits tasks_in_limits in_limits good_first read_first
 first_lines = refl
 

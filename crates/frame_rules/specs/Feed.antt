@@ -1,17 +1,15 @@
 -- Feeding the input in pieces: `feed` takes the rest of one line from a piece, `finish` ends the input, each with every
 -- lent byte as it leaves it. The crate frame_pieces shows that any pieces, fed and finished, write what Frame says.
 -- Assumes nothing.
-use Rattle.std.specs.Prelude.{ℕ, suc, ◌+◌, Bool, true, cond, ◌&&◌, List, [], ◌∷◌, ◌++◌, length, take, drop, replicate, leb, ltb, eqb}
+use Rattle.std.specs.Prelude.{ℕ, suc, ◌+◌, Bool, true, cond, ◌&&◌, List, [], ◌∷◌, ◌++◌, length, take, drop, replicate, leb, ltb, eqb, Result, Ok, Err}
 use Rattle.rules.specs.Lists.{at_front}
+use Rattle.rules.specs.declared.Refusal.{Refusal}
 use Rattle.rules.specs.Answer.{number_of_refusal}
+use Rattle.frame_rules.specs.declared.Fed.{Fed}
 use Rattle.frame_rules.specs.declared.First.{First}
 use Rattle.frame_rules.specs.declared.Run.{Run}
 use Rattle.frame_rules.specs.declared.Stage.{Stage}
 use Rattle.frame_rules.specs.declared.Stage.TheVariants.{AtFirst, Among, Ended}
-use Rattle.frame_rules.specs.declared.FeedAnswer.{FeedAnswer}
-use Rattle.frame_rules.specs.declared.FeedAnswer.TheVariants as feed_answer
-use Rattle.frame_rules.specs.declared.FinishAnswer.{FinishAnswer}
-use Rattle.frame_rules.specs.declared.FinishAnswer.TheVariants as finish_answer
 use Rattle.frame_rules.specs.Lines.{shape_in_limits, tasks_in_limits}
 use Rattle.frame_rules.specs.Frame.{Day, After, line_in, at_end}
 
@@ -82,9 +80,9 @@ pub data Feeding : Type 0 where
   feeds : Run → ℕ → ℕ → Buffers → Feeding
   refused : ℕ → Buffers → Feeding
 
-abbrev pub fed_says : FeedAnswer → Buffers → Feeding
-fed_says (feed_answer.Fed run at wrote) b = feeds run at wrote b
-fed_says (feed_answer.Refused n) b = refused (number_of_refusal n) b
+abbrev pub fed_says : Result Fed Refusal → Buffers → Feeding
+fed_says (Ok f) b = feeds f.run f.at f.wrote b
+fed_says (Err n) b = refused (number_of_refusal n) b
 
 -- a line feed was met
 abbrev pub closes : ℕ → Buffers → After → Feeding
@@ -119,9 +117,9 @@ pub data Finishing : Type 0 where
   finishes : ℕ → Buffers → Finishing
   refused_too : ℕ → Buffers → Finishing
 
-abbrev pub finish_says : FinishAnswer → Buffers → Finishing
-finish_says (finish_answer.Wrote n) b = finishes n b
-finish_says (finish_answer.Refused n) b = refused_too (number_of_refusal n) b
+abbrev pub finish_says : Result ℕ Refusal → Buffers → Finishing
+finish_says (Ok n) b = finishes n b
+finish_says (Err n) b = refused_too (number_of_refusal n) b
 
 -- a last line that lacks its line feed is a line
 unfoldable pub last_line : Run → Buffers → After

@@ -1,13 +1,11 @@
 -- Lines, and what they must hold (01, The frame program): the lines of an input, the first line, a line of keys.
 -- Assumes nothing.
-use Rattle.std.specs.Prelude.{ℕ, zero, suc, ◌/◌, ◌%◌, Bool, cond, ◌&&◌, List, [], ◌∷◌, ◌++◌, length, take, drop, leb, ltb, eqb}
+use Rattle.std.specs.Prelude.{ℕ, zero, suc, ◌/◌, ◌%◌, Bool, cond, ◌&&◌, List, [], ◌∷◌, ◌++◌, length, take, drop, leb, ltb, eqb, None, Option, Some}
 use Rattle.rules.specs.declared.Shape.{Shape}
 use Rattle.rules.specs.Lists.{all}
 use Rattle.rules.specs.Shape.{shape_of, keys}
 use Rattle.rules.specs.Record.{within}
 use Rattle.frame_rules.specs.declared.First.{First}
-use Rattle.frame_rules.specs.declared.FirstLine.{FirstLine}
-use Rattle.frame_rules.specs.declared.FirstLine.TheVariants.{Good, Bad}
 use Rattle.frame_rules.specs.Digits.{is_digit, number}
 
 -- the lines of an input behind a line already begun: each is ended by a line feed (10), the last may lack it
@@ -42,8 +40,8 @@ unfoldable pub good_first : List ℕ → Bool
 good_first line = eqb (length line) 6 && all is_digit line && in_limits (first_of line)
 
 -- a first line as it is read
-unfoldable pub read_first : List ℕ → FirstLine
-read_first line = cond (good_first line) (Good (first_of line)) Bad
+unfoldable pub read_first : List ℕ → Option First
+read_first line = cond (good_first line) (Some (first_of line)) None
 
 -- a line's first n keys, eight digits each
 unfoldable pub first_keys : ℕ → List ℕ → List ℕ

@@ -1,35 +1,19 @@
--- `length_from` meets its contract. The invariant: the line from i on ends where the line from the start on does.
+-- `length_from` meets its contract: the place of the first line feed, or the end of the bytes.
 -- Assumes nothing.
-use native.Mathlib.Omega.{arith}
-use Rattle.frame_reader.specs.Line.{line_met, line_passed, line_over}
+use Rattle.std.proofs.Common.{ℕ, ap, length, eqb, drop, ◌∙◌, rules, tests}
+use Rattle.std.proofs.lemmas.Iterator.{YieldsList-from_slice}
+use Rattle.std.proofs.lemmas.Iterator.Search.{position_from_yields_List}
+use Rattle.frame_reader.specs.Line.{line_over, line_found, rest_is}
 use Rattle.frame_reader.proofs.length_from.Goals as goal
 
-pub overflow_add-next : goal.overflow_add-next
-overflow_add-next c = omega arith
-
-pub bounds-src-i : goal.bounds-src-i
-bounds-src-i c = omega arith
-
-pub overflow_sub-result : goal.overflow_sub-result
-overflow_sub-result c = omega arith
-
-pub returns-then-src-i-eq10 : goal.returns-then-src-i-eq10
-returns-then-src-i-eq10 c =
-    omega
-    (arith, line_met c.args.src.now c.loop-i.i c.loop-i-test.true c.if-src-i-eq10.true)
-
-pub loop-i-smaller : goal.loop-i-smaller
-loop-i-smaller c = omega arith
-
-pub loop-i-preserved : goal.loop-i-preserved
-loop-i-preserved c =
-    let passed =
-    line_passed c.args.src.now c.loop-i.i c.loop-i-test.true c.if-src-i-eq10.false in
-    (omega arith, omega arith)
-
-pub overflow_sub-result-2 : goal.overflow_sub-result-2
-overflow_sub-result-2 c = omega arith
+pub returns-then-src-at : goal.returns-then-src-at
+returns-then-src-at c = line_over _ _ c.if-src-at.true
 
 pub returns : goal.returns
 returns c =
-    omega (arith, line_over c.args.src.now c.loop-i.i c.loop-i-test.false)
+    let whole = rest_is c.args.src.now c.args.at in
+    c.unwrap_or.ensures
+    ∙ line_found (drop c.args.at c.args.src.now) c.position.result
+    (position_from_yields_List (λ (b : ℕ). eqb b 10) _ _ _ c.position.ensures.ran
+    (YieldsList-from_slice _ (c.iter.ensures.rest ∙ whole)) (λ x b q k. search (rules, tests)))
+    _ (ap length whole)

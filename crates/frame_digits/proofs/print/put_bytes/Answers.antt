@@ -1,4 +1,4 @@
--- `put_bytes` meets its contract. The invariant is `Printing`; the measure, how many bytes are left.
+-- `put_bytes` meets its contract. The invariant is `Printing`.
 -- Assumes nothing.
 use Rattle.frame_digits.specs.Print.{printing_begins, printing_on, printing_ends}
 use Rattle.frame_digits.proofs.print.put_bytes.Goals as goal
@@ -9,9 +9,6 @@ loop-i-init c = printing_begins _ _ c.requires
 pub loop-i-preserved : goal.loop-i-preserved
 loop-i-preserved c =
     printing_on _ _ c.requires c.loop-i.invariant c.loop-i-test.true _ c.put_byte.ensures
-
-pub shape_of-out : goal.shape_of-out
-shape_of-out c = c.loop-i.invariant.size
 
 pub returns : goal.returns
 returns c = printing_ends _ _ c.requires c.loop-i.invariant c.loop-i-test.false

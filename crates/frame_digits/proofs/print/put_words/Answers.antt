@@ -1,5 +1,6 @@
--- `put_words` meets its contract. The invariant is `Wording`; the measure, how many words are left.
+-- `put_words` meets its contract. The invariant is `Wording`.
 -- Assumes nothing.
+use Rattle.std.proofs.Common.{arith}
 use Rattle.frame_digits.specs.Print.{wording_begins, wording_on, wording_ends}
 use Rattle.frame_digits.proofs.print.put_words.Goals as goal
 
@@ -8,12 +9,10 @@ loop-i-init c = wording_begins _ _ c.requires
 
 pub loop-i-preserved : goal.loop-i-preserved
 loop-i-preserved c =
-    wording_on _ _ c.requires c.loop-i.invariant c.loop-i-test.true _ _
+    let words = c.as_chunks.ensures in
+    wording_on _ _ c.requires c.loop-i.invariant _ words.front (omega arith) _ _
     c.put_byte.ensures
     c.put_byte-in-loop-i.ensures
 
-pub shape_of-out : goal.shape_of-out
-shape_of-out c = c.loop-i.invariant.size
-
 pub returns : goal.returns
-returns c = wording_ends _ _ c.requires c.loop-i.invariant c.loop-i-test.false
+returns c = wording_ends _ _ c.requires c.loop-i.invariant (omega arith)
