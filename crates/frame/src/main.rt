@@ -1,156 +1,83 @@
 // The frame program (01): reads standard input to its end and writes standard output. What it prints is the crate
-// frame_feed's; here are only the reads, the writes and the buffers.
+// frame_feed's; here are only the reads, the writes and the buffers. A read or a write that fails ends it with its error.
 #![tactic(auto)]
 
 use frame_feed::feed::{begin, feed};
 use frame_feed::finish::finish;
-use frame_rules::{FeedAnswer, FinishAnswer, Run};
+use frame_rules::Run;
 use std::io;
 use std::io::Read;
 
-// How far the input is: there is more, it has ended, or a call was refused.
-#[derive(Clone, Copy)]
-enum Input {
-    More,
-    Ended,
-    Failed,
-}
-
-// The run, and its input.
-#[derive(Clone, Copy)]
-struct State {
-    pub run: Run,
-    pub input: Input,
-}
-
-// The first n bytes of the output.
+// The first n bytes of the output, if it has so many.
 fn write_front(rt: &impl Print, out: &[u8], n: usize) -> io::Result<bool> {
-    if n <= out.len() {
-        rt.write_all(&out[0..n])?;
-        Ok(true)
-    } else {
-        Ok(false)
+    match out.get(0..n) {
+        Some(front) => {
+            rt.write_all(front)?;
+            Ok(true)
+        }
+        None => Ok(false),
     }
 }
 
-// A failed call ends the run, and nothing more is printed.
-fn failed(run: Run) -> State {
-    State {
-        run: run,
-        input: Input::Failed,
-    }
-}
-
-fn going_on(run: Run) -> State {
-    State {
-        run: run,
-        input: Input::More,
-    }
-}
-
-// The lines of a piece, one feed each: as many feeds as the piece has bytes are enough.
+// The lines of a piece, one feed each: as many feeds as the piece has bytes are enough. There is no run to go on with
+// where a call was refused.
 fn feed_piece(
     rt: &impl Print,
-    run: Run,
+    begun: Run,
     piece: &[u8],
     line: &mut [u8],
     table: &mut [u8],
     out: &mut [u8],
-) -> io::Result<State> {
-    let mut now = run;
+) -> io::Result<Option<Run>> {
+    let mut run = begun;
     let mut at = 0;
     for _ in 0..piece.len() {
         if piece.len() <= at {
-            return Ok(going_on(now));
+            return Ok(Some(run));
         }
-        match feed(now, piece, at, line, table, out) {
-            FeedAnswer::Fed(next, point, wrote) => {
-                if write_front(rt, out, wrote)? {
-                    now = next;
-                    at = point;
-                } else {
-                    return Ok(failed(now));
-                }
-            }
-            FeedAnswer::Refused(_) => {
-                return Ok(failed(now));
-            }
+        let Ok(fed) = feed(run, piece, at, line, table, out) else {
+            return Ok(None);
+        };
+        if !write_front(rt, out, fed.wrote)? {
+            return Ok(None);
         }
+        run = fed.run;
+        at = fed.at;
     }
-    Ok(going_on(now))
-}
-
-// One read, and the lines in what came. A read or a write that fails ends the program with its error.
-fn turn(
-    rt: &HostRuntime,
-    run: Run,
-    piece: &mut [u8],
-    line: &mut [u8],
-    table: &mut [u8],
-    out: &mut [u8],
-) -> io::Result<State> {
-    let n = rt.stdin().read(piece)?;
-    if n == 0 {
-        return Ok(State {
-            run: run,
-            input: Input::Ended,
-        });
-    }
-    feed_piece(rt, run, &piece[0..n], line, table, out)
-}
-
-// Nothing says that the input ends, so the turns are counted to a number that no run uses up.
-fn all_pieces(
-    rt: &HostRuntime,
-    piece: &mut [u8],
-    line: &mut [u8],
-    table: &mut [u8],
-    out: &mut [u8],
-) -> io::Result<State> {
-    let mut run = begin();
-    for _ in 0..u64::MAX {
-        let s = turn(rt, run, piece, line, table, out)?;
-        match s.input {
-            Input::More => {
-                run = s.run;
-            }
-            Input::Ended => {
-                return Ok(s);
-            }
-            Input::Failed => {
-                return Ok(s);
-            }
-        }
-    }
-    Ok(failed(run))
+    Ok(Some(run))
 }
 
 // The last line may lack its line feed; then the table is printed.
 fn last(
     rt: &impl Print,
-    s: State,
+    run: Run,
     line: &[u8],
     table: &mut [u8],
     out: &mut [u8],
 ) -> io::Result<()> {
-    match s.input {
-        Input::Ended => match finish(s.run, line, table, out) {
-            FinishAnswer::Wrote(n) => {
-                write_front(rt, out, n)?;
-            }
-            FinishAnswer::Refused(_) => {}
-        },
-        Input::More => {}
-        Input::Failed => {}
+    if let Ok(n) = finish(run, line, table, out) {
+        write_front(rt, out, n)?;
     }
     Ok(())
 }
 
+// Nothing says that the input ends, so the reads are counted to a number that no run uses up.
 fn main(rt: HostRuntime) -> io::Result<()> {
     let mut piece = [0u8; 65536];
     let mut line = [0u8; 4096];
     let mut table = [0u8; 32772];
     let mut out = [0u8; 66570];
-    let s = all_pieces(&rt, &mut piece, &mut line, &mut table, &mut out)?;
-    last(&rt, s, &line, &mut table, &mut out)
+    let mut run = begin();
+    for _ in 0..u64::MAX {
+        let n = rt.stdin().read(&mut piece)?;
+        if n == 0 {
+            return last(&rt, run, &line, &mut table, &mut out);
+        }
+        let fed = feed_piece(&rt, run, &piece[0..n], &mut line, &mut table, &mut out)?;
+        let Some(next) = fed else {
+            return Ok(());
+        };
+        run = next;
+    }
+    Ok(())
 }

@@ -1,15 +1,13 @@
 -- Laws of feeding: the point in the piece and the line's end (`end_in_piece`, `point_below`); the bytes held, and then
 -- a line or none (`fed_line`, `fed_on`); a call that is accepted or refused (`feed-..`). Assumes nothing.
 use Prim.Native.Nat.{ℕ, suc, ◌+◌, ◌-◌, ◌≤◌, ◌<◌, min}
-use Rattle.std.specs.Prelude.{◌≡◌, refl, Bool, List, length, take, drop, leb}
+use Rattle.std.specs.Prelude.{◌≡◌, refl, Bool, List, length, take, drop, leb, Err, Ok, Result}
 use Rattle.std.proofs.Common.{sym, ◌∙◌, length-drop, drop_of_length-le, length-take-le}
 use Rattle.std.proofs.Math.Path.{ap}
 use Rattle.std.proofs.Math.Bool.{true, false}
 use native.Mathlib.Omega.{arith}
 use Rattle.std.proofs.Math.Dec.{ltb}
 use borrow.Author.Tests.{lt-ltb, le-ltb, leb-true, leb-false, ne_eqb}
-use Rattle.rules.specs.declared.Done.{Done}
-use Rattle.rules.specs.declared.Done.TheVariants.{Accepted, Refused}
 use Rattle.rules.specs.declared.Refusal.{Refusal}
 use Rattle.rules.specs.Answer.{done_says, number_of_refusal}
 use Rattle.frame_rules.specs.declared.Run.{Run}
@@ -127,7 +125,7 @@ module _ (piece : List ℕ) (at from end : ℕ) (inside : from ≡ min at (lengt
             ∙ rest_good
 
 -- ---- a call that is accepted or refused
-module _ (run : Run) (line table out : List ℕ) (d : Done)
+module _ (run : Run) (line table out : List ℕ) (d : Result Unit Refusal)
     (check : (done_says d).number ≡ refusal_by run (length line) (length table) (length out))
   where
     abbrev b : Buffers
@@ -136,19 +134,19 @@ module _ (run : Run) (line table out : List ℕ) (d : Done)
     number : refusal run b ≡ (done_says d).number
     number = sym (check ∙ refusal_by_lem run b)
 
-    pub feed_ready : d ≡ Accepted → InOrder run b
-    feed_ready e = accepted run b (number ∙ ap (λ (x : Done). (done_says x).number) e)
+    pub feed_ready : d ≡ Ok tt → InOrder run b
+    feed_ready e = accepted run b (number ∙ ap (λ (x : Result Unit Refusal). (done_says x).number) e)
 
     pub feed_accepted :
-        d ≡ Accepted → (piece : List ℕ) (at : ℕ) (x : Feeding) → x ≡ feed_good run (drop at piece) at b →
+        d ≡ Ok tt → (piece : List ℕ) (at : ℕ) (x : Feeding) → x ≡ feed_good run (drop at piece) at b →
         x ≡ feed run piece at b
     unfolding feed
     feed_accepted e piece at x good = rw (not_refused run b (feed_ready e)) good
 
     pub feed_refused :
-        (n : Refusal) → d ≡ Refused n → (piece : List ℕ) (at : ℕ) →
+        (n : Refusal) → d ≡ Err n → (piece : List ℕ) (at : ℕ) →
         refused (number_of_refusal n) b ≡ feed run piece at b
     unfolding feed
     feed_refused n e piece at =
-        let is : refusal run b ≡ number_of_refusal n = number ∙ ap (λ (x : Done). (done_says x).number) e in
+        let is : refusal run b ≡ number_of_refusal n = number ∙ ap (λ (x : Result Unit Refusal). (done_says x).number) e in
         rw (is, ne_eqb (number_of_refusal n) 0 (some_number n))

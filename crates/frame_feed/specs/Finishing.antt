@@ -1,7 +1,7 @@
--- The end of the input. `last-..`: a last line that lacks its line feed; `finish-..`: the room behind it, and both as
--- one text; `call-..`: the call by its test.
+-- The end of the input. `finish-..`: the room behind a last line that lacks its line feed, and both as one text;
+-- `call-..`: the call by its test.
 -- Assumes nothing.
-use Rattle.std.specs.Prelude.{ℕ, ◌+◌, ◌-◌, ◌≤◌, ◌≡◌, Bool, cond, take, drop, eqb}
+use Rattle.std.specs.Prelude.{ℕ, ◌+◌, ◌-◌, ◌≤◌, ◌≡◌, Bool, cond, take, drop, eqb, Err, Ok, Result}
 use Rattle.std.proofs.Math.Path.{refl, ap}
 use Rattle.std.proofs.Common.{sym, ◌∙◌, subst, arith, length-take-le, take_all, take_at, drop_at, drop-drop}
 use Rattle.std.proofs.Math.Bool.{true, false}
@@ -11,8 +11,6 @@ use Rattle.std.proofs.Math.Seq.{drop-length}
 use borrow.Author.Tests.{eq-eqb, ne_eqb}
 use borrow.Rule.Slice.PartMut.{put_mid}
 use Rattle.rules.specs.declared.Refusal.{Refusal}
-use Rattle.rules.specs.declared.Done.{Done}
-use Rattle.rules.specs.declared.Done.TheVariants as done
 use Rattle.rules.specs.Answer.{number_of_refusal, done_says}
 use Rattle.rules.specs.Lists.{at_front}
 use Rattle.frame_rules.specs.declared.Run.{Run}
@@ -27,18 +25,6 @@ use Rattle.frame_buffers.specs.Check.{refusal_by, refusal_by_lem, some_number}
 use Rattle.frame_run.specs.Closing.{Shown, shown, printing, Closing, closed, closing, last_closing}
 
 -- ---- a last line that lacks its line feed
-pub last_none :
-    (run : Run) (line table out : List ℕ) → run.held ≡ 0 →
-    closed (record { run = run; wrote = 0 }) table out ≡ last_closing run (lent_buffers line table out)
-unfolding last_closing
-last_none run line table out none = rw (eq-eqb run.held 0 none)
-
-pub last_held :
-    (run : Run) (b : Buffers) (c : Closed) (table out : List ℕ) → (run.held ≡ 0 → ⊥) →
-    closed c table out ≡ closing (line_in (day_of run b.table) (held_line run.held b.line)) b.out →
-    closed c table out ≡ last_closing run b
-unfolding last_closing
-last_held run b c table out some e = rw (ne_eqb run.held 0 some) e
 
 -- what is left, beside what Feed says of that line
 record Last (x : Closing) (a : After) (was : List ℕ) : Type 0 where
@@ -157,7 +143,7 @@ module _ (run : Run) (b : Buffers) (ok : InOrder run b) where
 
 -- ---- the call by its test
 
-module _ (run : Run) (line table out : List ℕ) (d : Done)
+module _ (run : Run) (line table out : List ℕ) (d : Result Unit Refusal)
     (tested : (done_says d).number ≡ refusal_by run (length line) (length table) (length out))
   where
     abbrev buffers : Buffers
@@ -166,19 +152,19 @@ module _ (run : Run) (line table out : List ℕ) (d : Done)
     test_is : refusal run buffers ≡ (done_says d).number
     test_is = sym (refusal_by_lem run buffers) ∙ sym tested
 
-    not_refused : d ≡ done.Accepted → refusal run buffers ≡ 0
-    not_refused e = test_is ∙ ap (λ (x : Done). (done_says x).number) e
+    not_refused : d ≡ Ok tt → refusal run buffers ≡ 0
+    not_refused e = test_is ∙ ap (λ (x : Result Unit Refusal). (done_says x).number) e
 
-    pub call_ready : d ≡ done.Accepted → InOrder run buffers
+    pub call_ready : d ≡ Ok tt → InOrder run buffers
     call_ready e = accepted run buffers (not_refused e)
 
     pub call_accepted :
-        d ≡ done.Accepted → (x : Finishing) → x ≡ finish_good buffers (last_line run buffers) → x ≡ finish run buffers
+        d ≡ Ok tt → (x : Finishing) → x ≡ finish_good buffers (last_line run buffers) → x ≡ finish run buffers
     unfolding finish
     call_accepted e x same = rw (eq-eqb (refusal run buffers) 0 (not_refused e)) same
 
-    pub call_refused : (n : Refusal) → d ≡ done.Refused n → refused_too (number_of_refusal n) buffers ≡ finish run buffers
+    pub call_refused : (n : Refusal) → d ≡ Err n → refused_too (number_of_refusal n) buffers ≡ finish run buffers
     unfolding finish
     call_refused n e =
-        let number : refusal run buffers ≡ number_of_refusal n = test_is ∙ ap (λ (x : Done). (done_says x).number) e in
+        let number : refusal run buffers ≡ number_of_refusal n = test_is ∙ ap (λ (x : Result Unit Refusal). (done_says x).number) e in
         rw (number, ne_eqb (number_of_refusal n) 0 (some_number n))

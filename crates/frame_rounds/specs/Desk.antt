@@ -1,11 +1,13 @@
 -- The sixteen places for tasks, of which the first n sit, as a floor; and the laws of the loops over turns and rounds.
--- `Turning`: one round, turn by turn. `rest_on` to `answered_not`: whether all tasks are at rest, and all keys
--- answered.
+-- `Turning`: one round, turn by turn. `answered_rest`, `answered_not`: whether all keys are answered; `Playing`: the
+-- rounds.
 -- Assumes nothing.
 use Prim.Native.Nat.{ℕ, zero, suc, ◌+◌, ◌-◌, ◌/◌, ◌≤◌, ◌<◌}
-use Rattle.std.specs.Prelude.{◌≡◌, Bool, true, false, ◌&&◌, List, get_or, set, take, drop, eqb}
+use Rattle.std.specs.Prelude.{◌≡◌, Bool, true, false, ◌&&◌, List, map, get_or, set, take, eqb}
 use Rattle.std.proofs.Math.Path.{refl, sym, ap}
-use Rattle.std.proofs.Common.{◌∙◌, add-one, length-set, get_or-take, eq-eqb, ne_eqb}
+use Rattle.std.proofs.lemmas.List.{length-map, map-set, take-map}
+use Rattle.std.proofs.Math.ListN.{get_or-map}
+use Rattle.std.proofs.Common.{ap₂, ◌∙◌, add-one, length-set, get_or-take, eq-eqb, ne_eqb}
 use Rattle.std.proofs.Math.Bool.{cond}
 use native.Mathlib.Omega.{arith}
 use Rattle.std.proofs.Math.ListN.{length}
@@ -16,9 +18,10 @@ use Rattle.rules.specs.Lists.{all}
 use Rattle.frame_rules.specs.declared.First.{First}
 use Rattle.frame_rules.specs.Lines.{keys_of}
 use Rattle.frame_rules.specs.Rounds.{Floor, turn, turns, round, all_answered, rounds}
+use Rattle.frame_rounds.specs.declared.first.Seated.{Seated}
 use Rattle.frame_rounds.specs.declared.round.Desk.{Desk}
+use Rattle.frame_rounds.specs.declared.round.Seat.{Seat}
 use Rattle.frame_rounds.specs.declared.turn.Sitting.{Sitting}
-use Rattle.table_words.specs.All.{all_on, all_stops, all_ends}
 use Rattle.frame_pieces.specs.Limits.{keys_count}
 use Rattle.frame_rounds.specs.Sitting.{Sat, sat, turn_one, turn_one_lem}
 
@@ -27,8 +30,22 @@ abbrev pub floor_with : ℕ → List ℕ → List ℕ → List Task → List ℕ
 floor_with n table answers ts hs k =
     record { table = table; tasks = take n ts; serving = take n hs; taken = k; answers = answers }
 
+-- the tasks of some seats, and the keys that they hold
+abbrev pub tasks_of : List Seat → List Task
+tasks_of seats = map (λ (s : Seat). s.task) seats
+
+abbrev pub servings_of : List Seat → List ℕ
+servings_of seats = map (λ (s : Seat). s.serving) seats
+
 abbrev pub floor_of : ℕ → List ℕ → List ℕ → Desk → Floor
-floor_of n table answers d = floor_with n table answers d.tasks d.serving d.taken
+floor_of n table answers d = floor_with n table answers (tasks_of d.seats) (servings_of d.seats) d.taken
+
+-- a seat that none sits at
+abbrev pub no_seat : Seat
+no_seat = record { task = no_task; serving = 0 }
+
+abbrev pub seat_at : Desk → ℕ → Seat
+seat_at d i = get_or d.seats i no_seat
 
 -- the turns that are left of a round
 abbrev pub turns_from : First → List ℕ → ℕ → Floor → Floor
@@ -86,68 +103,77 @@ module _ (f : First) (ks : List ℕ) (few : f.tasks ≤ 16) where
           after = floor_with f.tasks table' answers' (set ts i s.task) (set hs i s.serving) s.taken
 
 -- ---- the loop of a round: task i is next
-pub record Turning (f : First) (ks : List ℕ) (p₀ : Floor) (table answers : List ℕ) (ts : List Task)
-    (hs : List ℕ) (k i : ℕ) : Type 0 where
-  pub low : i ≤ f.tasks
+pub record Turning (f : Seated) (ks : List ℕ) (p₀ : Floor) (table answers : List ℕ) (d : Desk) (i : ℕ) : Type 0 where
+  pub low : i ≤ f.first.tasks
   pub size : length table ≡ length p₀.table
   pub slots : length answers ≡ length p₀.answers
-  pub seats : length ts ≡ 16
-  pub left : turns_from f ks i (floor_with f.tasks table answers ts hs k) ≡ round f ks p₀
+  pub seats : length d.seats ≡ 16
+  pub left : turns_from f.first ks i (floor_of f.first.tasks table answers d) ≡ round f.first ks p₀
 
-module _ {f : First} {ks : List ℕ} (few : f.tasks ≤ 16) where
+module _ {f : Seated} {ks : List ℕ} where
   pub turning_begins :
-      {table answers : List ℕ} {ts : List Task} {hs : List ℕ} {k : ℕ} → length ts ≡ 16 →
-      Turning f ks (floor_with f.tasks table answers ts hs k) table answers ts hs k 0
-  turning_begins {table} {answers} {ts} {hs} {k} seats =
+      {table answers : List ℕ} {d : Desk} → length d.seats ≡ 16 →
+      Turning f ks (floor_of f.first.tasks table answers d) table answers d 0
+  turning_begins {table} {answers} {d} seats =
       record {
         low = omega arith;
         size = refl;
         slots = refl;
         seats = seats;
-        left = round_begins f ks few table answers ts hs k seats;
+        left =
+            round_begins f.first ks f.few table answers (tasks_of d.seats) (servings_of d.seats) d.taken
+            (length-map d.seats (λ (s : Seat). s.task) ∙ seats);
       }
 
-  module _ {p₀ : Floor} {table answers : List ℕ} {ts : List Task} {hs : List ℕ} {k i : ℕ}
-      (inv : Turning f ks p₀ table answers ts hs k i)
-    where
-      pub turning_on :
-          {table' answers' : List ℕ} {s : Sitting} → i < f.tasks →
-          sat table' answers' s
-          ≡ turn_one f ks table answers (record { task = task_at ts i; serving = get_or hs i 0; taken = k }) →
-          length table' ≡ length table → length answers' ≡ length answers →
-          Turning f ks p₀ table' answers' (set ts i s.task) (set hs i s.serving) s.taken (i + 1)
-      turning_on {table'} {answers'} {s} here e same same' =
-          record {
-            low = omega arith;
-            size = same ∙ inv.size;
-            slots = same' ∙ inv.slots;
-            seats = length-set ts i s.task ∙ inv.seats;
-            left = turns_on f ks few i here table answers ts hs k inv.seats table' answers' s e ∙ inv.left;
-          }
+  module _ {p₀ : Floor} {table answers : List ℕ} {d : Desk} {i : ℕ} (inv : Turning f ks p₀ table answers d i) where
+    pub turning_on :
+        {table' answers' : List ℕ} {s : Sitting} → i < f.first.tasks →
+        sat table' answers' s
+        ≡ turn_one f.first ks table answers
+        (record { task = (seat_at d i).task; serving = (seat_at d i).serving; taken = d.taken }) →
+        length table' ≡ length table → length answers' ≡ length answers →
+        Turning f ks p₀ table' answers'
+        (record { seats = set d.seats i (record { task = s.task; serving = s.serving }); taken = s.taken }) (i + 1)
+    turning_on {table'} {answers'} {s} here e same same' =
+        record {
+          low = omega arith;
+          size = same ∙ inv.size;
+          slots = same' ∙ inv.slots;
+          seats = length-set d.seats i seat ∙ inv.seats;
+          left =
+              ap₂ (λ (ts : List Task) (hs : List ℕ).
+              turns_from f.first ks (i + 1) (floor_with f.first.tasks table' answers' ts hs s.taken))
+              (map-set (λ (x : Seat). x.task) d.seats i seat)
+              (map-set (λ (x : Seat). x.serving) d.seats i seat)
+              ∙ turns_on f.first ks f.few i here table answers (tasks_of d.seats) (servings_of d.seats) d.taken
+              (length-map d.seats (λ (x : Seat). x.task) ∙ inv.seats) table' answers' s sits
+              ∙ inv.left;
+        }
+      where
+        seat : Seat
+        seat = record { task = s.task; serving = s.serving }
 
-      pub turning_ends : f.tasks ≤ i → floor_with f.tasks table answers ts hs k ≡ round f ks p₀
-      turning_ends done = sym (turns_end f ks few i (floor_with f.tasks table answers ts hs k) done) ∙ inv.left
+        sits :
+            sat table' answers' s
+            ≡ turn_one f.first ks table answers
+            (record {
+              task = task_at (tasks_of d.seats) i;
+              serving = get_or (servings_of d.seats) i 0;
+              taken = d.taken;
+            })
+        sits =
+            e
+            ∙ sym (ap₂ (λ (t : Task) (h : ℕ).
+            turn_one f.first ks table answers (record { task = t; serving = h; taken = d.taken }))
+            (get_or-map (λ (x : Seat). x.task) d.seats i no_seat)
+            (get_or-map (λ (x : Seat). x.serving) d.seats i no_seat))
 
--- ---- whether the first n tasks are all at rest
-module _ (ts : List Task) (n i : ℕ) (few : n ≤ length ts) where
-  sized : length (take n ts) ≡ n
-  sized = length-take-le n ts few
-
-  pub rest_on :
-      i < n → at_rest (task_at ts i) ≡ true → all at_rest (drop (i + 1) (take n ts)) ≡ all at_rest (drop i (take n ts))
-  rest_on here e =
-      all_on at_rest (take n ts) i no_task (omega (arith, sized)) (ap at_rest (get_or-take n ts i no_task here) ∙ e)
-
-  pub rest_stops : i < n → at_rest (task_at ts i) ≡ false → all at_rest (drop i (take n ts)) ≡ false
-  rest_stops here e =
-      all_stops at_rest (take n ts) i no_task (omega (arith, sized)) (ap at_rest (get_or-take n ts i no_task here) ∙ e)
-
-  pub rest_ends : n ≤ i → all at_rest (drop i (take n ts)) ≡ true
-  rest_ends done = all_ends at_rest (take n ts) i no_task (omega (arith, sized))
+    pub turning_ends : f.first.tasks ≤ i → floor_of f.first.tasks table answers d ≡ round f.first ks p₀
+    turning_ends done = sym (turns_end f.first ks f.few i (floor_of f.first.tasks table answers d) done) ∙ inv.left
 
 -- ---- whether all of the line's keys are answered, by the desk alone
 unfoldable pub answered_at : ℕ → List ℕ → Desk → Bool
-answered_at n ks d = eqb d.taken (length ks) && all at_rest (take n d.tasks)
+answered_at n ks d = eqb d.taken (length ks) && all at_rest (take n (tasks_of d.seats))
 
 pub answered_floor :
     (n : ℕ) (ks table answers : List ℕ) (d : Desk) → answered_at n ks d ≡ all_answered ks (floor_of n table answers d)
@@ -156,64 +182,77 @@ answered_floor n ks table answers d = refl
 
 module _ (line : List ℕ) (n : ℕ) (d : Desk) where
   pub answered_rest :
-      (b : Bool) → d.taken ≡ length line / 8 → b ≡ all at_rest (take n d.tasks) → b ≡ answered_at n (keys_of line) d
+      (b : Bool) → d.taken ≡ length line / 8 → b ≡ all at_rest (tasks_of (take n d.seats)) →
+      b ≡ answered_at n (keys_of line) d
   unfolding answered_at
-  answered_rest b e rest = rw (eq-eqb d.taken (length (keys_of line)) (e ∙ sym (keys_count line)), rest)
+  answered_rest b e rest =
+      rw (
+        eq-eqb d.taken (length (keys_of line)) (e ∙ sym (keys_count line)),
+        rest,
+        take-map (λ (s : Seat). s.task) n d.seats,
+      )
 
   pub answered_not : (d.taken ≡ length line / 8 → ⊥) → false ≡ answered_at n (keys_of line) d
   unfolding answered_at
   answered_not e = rw (ne_eqb d.taken (length (keys_of line)) (λ same. e (same ∙ keys_count line)))
 
--- ---- the loop of rounds: n of them are left
-pub record Playing (f : First) (ks : List ℕ) (limit : ℕ) (p₀ : Floor) (table answers : List ℕ) (d : Desk) (n : ℕ)
+-- ---- the loop of rounds: so many of them are gone
+pub record Playing (f : Seated) (ks : List ℕ) (limit : ℕ) (p₀ : Floor) (table answers : List ℕ) (d : Desk) (gone : ℕ)
     : Type 0 where
   pub size : length table ≡ length p₀.table
   pub slots : length answers ≡ length p₀.answers
-  pub left : rounds f ks n (floor_of f.tasks table answers d) ≡ rounds f ks limit p₀
+  pub left : rounds f.first ks (limit - gone) (floor_of f.first.tasks table answers d) ≡ rounds f.first ks limit p₀
 
-module _ {f : First} {ks : List ℕ} {limit : ℕ} where
+module _ {f : Seated} {ks : List ℕ} {limit : ℕ} where
   pub playing_begins :
       {table answers : List ℕ} {d : Desk} →
-      Playing f ks limit (floor_of f.tasks table answers d) table answers d limit
-  playing_begins = record { size = refl; slots = refl; left = refl }
+      Playing f ks limit (floor_of f.first.tasks table answers d) table answers d 0
+  playing_begins {table} {answers} {d} =
+      let none : limit - 0 ≡ limit = omega arith in
+      record {
+        size = refl;
+        slots = refl;
+        left = ap (λ (n : ℕ). rounds f.first ks n (floor_of f.first.tasks table answers d)) none;
+      }
 
-  module _ {p₀ : Floor} {table answers : List ℕ} {d : Desk} {n : ℕ}
-      (inv : Playing f ks limit p₀ table answers d n)
+  module _ {p₀ : Floor} {table answers : List ℕ} {d : Desk} {gone : ℕ}
+      (inv : Playing f ks limit p₀ table answers d gone)
     where
       abbrev here : Floor
-      here = floor_of f.tasks table answers d
+      here = floor_of f.first.tasks table answers d
 
       pub playing_on :
-          {table' answers' : List ℕ} {d' : Desk} {b : Bool} → 0 < n → b ≡ answered_at f.tasks ks d → b ≡ false →
-          floor_of f.tasks table' answers' d' ≡ round f ks here →
+          {table' answers' : List ℕ} {d' : Desk} {b : Bool} →
+          gone < limit → b ≡ answered_at f.first.tasks ks d → b ≡ false →
+          floor_of f.first.tasks table' answers' d' ≡ round f.first ks here →
           length table' ≡ length table → length answers' ≡ length answers →
-          Playing f ks limit p₀ table' answers' d' (n - 1)
+          Playing f ks limit p₀ table' answers' d' (gone + 1)
       unfolding rounds
       playing_on {table'} {answers'} {d'} more asked busy e same same' =
-          let next : suc (n - 1) ≡ n = omega arith in
+          let next : suc (limit - (gone + 1)) ≡ limit - gone = omega arith in
           record {
             size = same ∙ inv.size;
             slots = same' ∙ inv.slots;
             left =
-                ap (rounds f ks (n - 1)) e
-                ∙ sym (ap (λ (b : Bool). cond b here (rounds f ks (n - 1) (round f ks here)))
-                (sym (answered_floor f.tasks ks table answers d) ∙ sym asked ∙ busy))
-                ∙ ap (λ (k : ℕ). rounds f ks k here) next
+                ap (rounds f.first ks (limit - (gone + 1))) e
+                ∙ sym (ap (λ (b : Bool). cond b here (rounds f.first ks (limit - (gone + 1)) (round f.first ks here)))
+                (sym (answered_floor f.first.tasks ks table answers d) ∙ sym asked ∙ busy))
+                ∙ ap (λ (k : ℕ). rounds f.first ks k here) next
                 ∙ inv.left;
           }
 
       -- no round is left
-      pub playing_ends : n ≤ 0 → here ≡ rounds f ks limit p₀
+      pub playing_ends : limit ≤ gone → here ≡ rounds f.first ks limit p₀
       unfolding rounds
       playing_ends none =
-          let zeroth : n ≡ 0 = omega arith in
-          ap (λ (k : ℕ). rounds f ks k here) (sym zeroth) ∙ inv.left
+          let zeroth : limit - gone ≡ 0 = omega arith in
+          ap (λ (k : ℕ). rounds f.first ks k here) (sym zeroth) ∙ inv.left
 
       -- all is answered
-      pub playing_stops : {b : Bool} → b ≡ answered_at f.tasks ks d → b ≡ true → here ≡ rounds f ks limit p₀
+      pub playing_stops : {b : Bool} → b ≡ answered_at f.first.tasks ks d → b ≡ true → here ≡ rounds f.first ks limit p₀
       unfolding rounds
-      playing_stops asked done = sym (stop n) ∙ inv.left
+      playing_stops asked done = sym (stop (limit - gone)) ∙ inv.left
         where
-          stop : (k : ℕ) → rounds f ks k here ≡ here
+          stop : (k : ℕ) → rounds f.first ks k here ≡ here
           stop zero = refl
-          stop (suc k) = rw (sym (answered_floor f.tasks ks table answers d) ∙ sym asked ∙ done)
+          stop (suc k) = rw (sym (answered_floor f.first.tasks ks table answers d) ∙ sym asked ∙ done)

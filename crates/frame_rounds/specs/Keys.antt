@@ -1,6 +1,6 @@
--- A line's keys by number: `key_is`, the key with a number; `key_inside`, its digits.
+-- A line's keys by number: `key_is`.
 -- Assumes nothing.
-use Rattle.std.specs.Prelude.{ℕ, zero, suc, ◌+◌, ◌*◌, ◌/◌, ◌≤◌, ◌<◌, ◌≡◌, refl, List, length, get_or, take, drop}
+use Rattle.std.specs.Prelude.{ℕ, zero, suc, ◌+◌, ◌*◌, ◌/◌, ◌<◌, ◌≡◌, refl, List, length, get_or, take, drop}
 use Rattle.std.proofs.Common.{ap, ◌∙◌, arith, drop-drop}
 use Rattle.frame_rules.specs.Digits.{number}
 use Rattle.frame_rules.specs.Lines.{first_keys, keys_of}
@@ -16,10 +16,8 @@ first_is (suc n) (suc i) line h =
     ∙ ap (λ (xs : List ℕ). number (take 8 xs)) (drop-drop (8 * i) 8 line)
     ∙ ap (λ (k : ℕ). number (take 8 (drop k line))) place
 
-module _ (line : List ℕ) (i : ℕ) (here : i < length (keys_of line)) where
-  pub key_inside : 8 * i + 8 ≤ length line
-  key_inside = omega (arith, keys_count line)
-
-  pub key_is : get_or (keys_of line) i 0 ≡ number (take 8 (drop (8 * i) line))
-  unfolding keys_of
-  key_is = first_is (length line / 8) i line (omega (arith, keys_count line))
+pub key_is :
+    (line : List ℕ) (i : ℕ) → i < length (keys_of line) →
+    get_or (keys_of line) i 0 ≡ number (take 8 (drop (8 * i) line))
+unfolding keys_of
+key_is line i here = first_is (length line / 8) i line (omega (arith, keys_count line))

@@ -1,16 +1,14 @@
 -- One task's turn on its own record (01, The frame program). `turn_one`: the turn of task i on the floor is that turn,
 -- with what it leaves put back.
 -- Assumes nothing.
-use Prim.Native.Nat.{ℕ, suc, ◌+◌, ◌/◌, ◌≤◌, ◌<◌}
-use Rattle.std.specs.Prelude.{◌≡◌, refl, Bool, List, length, get_or, set, ltb, eqb}
+use Prim.Native.Nat.{ℕ, suc, ◌≤◌, ◌<◌}
+use Rattle.std.specs.Prelude.{◌≡◌, refl, Bool, List, length, get_or, set, ltb, eqb, Err, Ok, Result}
 use Rattle.std.proofs.Math.Path.{sym, ap}
-use Rattle.std.proofs.Common.{◌∙◌, arith, get_or-set_same, lt-ltb, le-ltb, ne_eqb}
+use Rattle.std.proofs.Common.{◌∙◌, get_or-set_same}
 use Rattle.std.proofs.Math.Bool.{true, false, cond}
-use Rattle.std.proofs.Math.Numerals.{add-one}
 use Rattle.std.proofs.Math.Seq.{set-get_or, set_out}
+use Rattle.rules.specs.declared.Refusal.{Refusal}
 use Rattle.rules.specs.declared.Task.{Task}
-use Rattle.rules.specs.declared.Turn.{Turn}
-use Rattle.rules.specs.declared.Turn.TheVariants.{Next, Refused}
 use Rattle.rules.specs.Record.{at_rest, no_task, task_at, good_task}
 use Rattle.rules.specs.Answer.{Leaves, leaves, turn_says}
 use Rattle.rules.specs.Give.{stored_at, give}
@@ -19,10 +17,8 @@ use Rattle.task_step.specs.Given.{give_one, give_one_lem}
 use Rattle.theory.specs.Record.{good_task_lem}
 use Rattle.task_step.specs.Stepping.{Left, step_says, step_one, lent_of, step_one_lem}
 use Rattle.frame_rules.specs.declared.First.{First}
-use Rattle.frame_rules.specs.Lines.{keys_of}
 use Rattle.frame_rules.specs.Rounds.{Floor, after_take, after_step, turn}
 use Rattle.frame_rounds.specs.declared.turn.Sitting.{Sitting}
-use Rattle.frame_pieces.specs.Limits.{keys_count}
 
 -- the record that a call leaves
 abbrev pub left_task : Leaves Task → Task
@@ -138,64 +134,15 @@ module _ (f : First) (ks : List ℕ) (i : ℕ) (p : Floor) (here : i < length p.
 
 -- a step's turn, and the record kept of it
 pub after_says :
-    (answers : List ℕ) (s : Sitting) (x : Turn) (after : List ℕ) →
+    (answers : List ℕ) (s : Sitting) (x : Result Task Refusal) (after : List ℕ) →
     after_one answers s (step_says s.task x after)
     ≡ sat after (answered answers s.serving (left_task (turn_says s.task x)))
     (seated s (left_task (turn_says s.task x)))
-after_says answers s (Next u) after = refl
-after_says answers s (Refused n) after = refl
+after_says answers s (Ok u) after = refl
+after_says answers s (Err n) after = refl
 
--- ---- the code's parts of a turn
-module _ (answers : List ℕ) (i : ℕ) (t : Task) where
-  pub answer_done : t.phase ≡ 13 → set answers i t.answer ≡ answered answers i t
-  unfolding answered
-  answer_done e = rw e
-
-  pub answer_lost : t.phase ≡ 13 → length answers ≤ i → answers ≡ answered answers i t
-  unfolding answered
-  answer_lost e beyond = rw e (sym (set_out answers i t.answer beyond))
-
-  pub answer_later : (t.phase ≡ 13 → ⊥) → answers ≡ answered answers i t
-  unfolding answered
-  answer_later e = rw (ne_eqb t.phase 13 e)
-
-module _ (f : First) (line : List ℕ) (s : Sitting) where
-  pub next_there : s.taken < length line / 8 → s.taken < length (keys_of line)
-  next_there h = omega (arith, keys_count line)
-
-  pub take_more :
-      (key : ℕ) (x : Turn) (t : Task) →
-      s.taken < length line / 8 →
-      key ≡ get_or (keys_of line) s.taken 0 →
-      turn_says s.task x ≡ give_one f.shape key s.task →
-      t ≡ left_task (turn_says s.task x) →
-      record { task = t; serving = s.taken; taken = s.taken + 1 } ≡ take_next f (keys_of line) s
-  unfolding take_next
-  take_more key x t more e gave kept =
-      rw (lt-ltb s.taken (length (keys_of line)) (next_there more), sym e, sym gave, sym kept, add-one s.taken)
-
-  pub take_none : length line / 8 ≤ s.taken → s ≡ take_next f (keys_of line) s
-  unfolding take_next
-  take_none done = rw (le-ltb s.taken (length (keys_of line)) (omega (arith, keys_count line)))
-
-module _ (f : First) (table answers : List ℕ) (s : Sitting) where
-  pub step_sat :
-      (x : Turn) (t : Task) (after answers' : List ℕ) →
-      step_says s.task x after ≡ step_one f.shape table s.task →
-      t ≡ left_task (turn_says s.task x) →
-      answers' ≡ answered answers s.serving t →
-      sat after answers' (seated s t) ≡ make_step f table answers s
-  unfolding make_step
-  step_sat x t after answers' e kept wrote =
-      rw (wrote, kept) (sym (after_says answers s x after)) ∙ ap (after_one answers s) e
-
-module _ (f : First) (ks table answers : List ℕ) (s : Sitting) where
-  pub turn_rest : at_rest s.task ≡ true → (x : Sitting) → x ≡ take_next f ks s →
-      sat table answers x ≡ turn_one f ks table answers s
-  unfolding turn_one
-  turn_rest e x took = rw (e, took)
-
-  pub turn_steps : at_rest s.task ≡ false → (x : Sat) → x ≡ make_step f table answers s →
-      x ≡ turn_one f ks table answers s
-  unfolding turn_one
-  turn_steps e x made = rw (e, made)
+-- a done task's answer that has no slot is lost
+pub answer_lost :
+    (answers : List ℕ) (i : ℕ) (t : Task) → t.phase ≡ 13 → length answers ≤ i → answers ≡ answered answers i t
+unfolding answered
+answer_lost answers i t e beyond = rw e (sym (set_out answers i t.answer beyond))

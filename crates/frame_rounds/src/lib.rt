@@ -3,5 +3,6 @@
 // The call for one line stands above this crate.
 #![tactic(auto)]
 
+pub mod first;
 pub mod round;
 pub mod turn;

@@ -1,10 +1,8 @@
 -- What a whole line leaves, as the code has it: the run that follows, how much is printed, the table and the output.
 -- Assumes nothing.
-use Rattle.std.specs.Prelude.{ℕ, Bool, true, cond, List, [], length, take, leb, eqb}
+use Rattle.std.specs.Prelude.{ℕ, Bool, true, cond, List, length, take, leb, eqb}
 use Rattle.rules.specs.Lists.{at_front}
 use Rattle.frame_rules.specs.declared.First.{First}
-use Rattle.frame_rules.specs.declared.FirstLine.{FirstLine}
-use Rattle.frame_rules.specs.declared.FirstLine.TheVariants.{Good, Bad}
 use Rattle.frame_rules.specs.declared.Run.{Run}
 use Rattle.frame_rules.specs.declared.Stage.TheVariants.{Among, Ended}
 use Rattle.frame_rules.specs.Digits.{digits_of}
@@ -42,11 +40,6 @@ closing a out =
       table = a.day.table;
       out = at_front a.prints out;
     }
-
--- ---- what a first line makes of the run, by how it is read; the table it leaves alone
-abbrev pub first_came : FirstLine → After
-first_came (Good f) = after (Among f) [] []
-first_came Bad = after Ended [] error
 
 -- ---- what the call for one line came to, as what the line makes of the run; a refusal is never met
 abbrev pub line_came : First → Came → List ℕ → List ℕ → After

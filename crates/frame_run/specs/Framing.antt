@@ -1,45 +1,37 @@
 -- A line of keys, and any line, as the code closes them. `came_is`: what the call for one line comes to is frame_rules'
--- frame_line, and `text_closed` closes it. `frame_whole`, `frame_long`: a line held whole, and one too long. `first_in`
--- to `ended_in`: by stage.
+-- frame_line, and `text_closed` closes it. `long_is`: a line too long. `first_in` to `ended_in`: by stage.
 -- Assumes nothing.
-use Rattle.std.specs.Prelude.{ℕ, ◌-◌, ◌*◌, ◌≤◌, ◌<◌, ◌≡◌, Bool, length}
+use Rattle.std.specs.Prelude.{ℕ, ◌*◌, ◌<◌, ◌≡◌, Bool, length}
 use Rattle.std.proofs.Math.Path.{refl, ap}
 use Rattle.std.proofs.Common.{subst, ◌∙◌, arith, take-append-drop, length-take-le}
 use Rattle.std.proofs.Math.Bool.{true, false, cond, and-eq-true_iff}
-use mathlib.Core.List.{List, [], ◌++◌}
+use mathlib.Core.List.{List, [], ◌∷◌, ◌++◌}
 use Rattle.std.proofs.Math.ListN.{take, drop}
 use Rattle.std.proofs.Math.Seq.{take_at}
 use Rattle.std.proofs.Math.Dec.{leb}
 use borrow.Author.Tests.{le-leb, eq-eqb}
 use Rattle.rules.specs.Shape.{places, fits_length, good_table}
-use Rattle.rules.specs.Lists.{at_front}
+use Rattle.rules.specs.Lists.{at_front, all}
 use Rattle.frame_rules.specs.declared.First.{First}
 use Rattle.frame_rules.specs.declared.Run.{Run}
 use Rattle.frame_rules.specs.declared.Stage.TheVariants.{AtFirst, Among, Ended}
-use Rattle.frame_rules.specs.Digits.{digits_of}
+use Rattle.frame_rules.specs.Digits.{is_digit, digits_of}
 use Rattle.frame_rules.specs.Lines.{first_of, good_first, shape_in_limits, tasks_in_limits, in_limits, keys_of, good_line}
 use Rattle.frame_rules.specs.Rounds.{Floor, all_answered, play}
-use Rattle.frame_rules.specs.Frame.{After, after, used, printed, error, first_line, played_line, frame_line, line_in}
+use Rattle.frame_rules.specs.declared.Stage.{Stage}
+use Rattle.frame_rules.specs.Frame.{Day, line_at, After, after, used, printed, error, first_line, played_line, frame_line, line_in}
 use Rattle.frame_rules.specs.Call.{Came, passed_over, answered, refused, Line, left_alone, played, line, ended}
 use Rattle.frame_rules.specs.Feed.{run_of, day_of, held_line}
 use Rattle.table_words.specs.Range.{range_in}
 use Rattle.frame_first.specs.Limits.{in_limits_lem, used_fits}
 use Rattle.frame_pieces.specs.Sizes.{play_answers}
-use Rattle.frame_pieces.specs.Held.{held_whole, held_long, bad_line}
+use Rattle.frame_pieces.specs.Held.{held_long, bad_first, bad_line}
 use Rattle.frame_pieces.specs.Limits.{keys_count, few_keys, in_stage, Fit}
 use Rattle.frame_run.specs.declared.close.Closed.{Closed}
 use Rattle.frame_run.specs.Closing.{Closing, closed, closing, line_came, few_answers}
 
 -- ---- a first line within its limits
 module _ (f : First) (within_limits : in_limits f ≡ true) where
-  -- the bytes of the used part, from the places
-  pub used_is : (n : ℕ) → n ≡ places f.shape → 2 * n ≡ used f
-  unfolding used
-  used_is n e = rw e
-
-  pub used_inside : (n : ℕ) → n ≡ places f.shape → 2 * n ≤ 32772
-  used_inside n e = omega (arith, used_is n e, used_fits f within_limits)
-
   -- ---- the call for one line on the used part
   module _ (table text slots : List ℕ) (sized : length table ≡ 32772) (many : length slots ≡ 512) where
     part_good : good_table f.shape (length (take (used f) table)) ≡ true
@@ -126,28 +118,24 @@ module _ (f : First) (within_limits : in_limits f ≡ true) where
             ∙ all_or (all_answered (keys_of text) floor) (few e)
         go false e = ap (λ (x : Line). few_answers x.came) (called_bad e)
 
-    -- as the code has it: the part from 0 to two bytes for each place
-    module _ (n : ℕ) (count : n ≡ places f.shape) where
-      end_is : 2 * n - 0 ≡ used f
-      end_is = omega (arith, used_is n count)
+    -- as the code has it: the part up to its count of bytes
+    module _ (u : ℕ) (is : u ≡ used f) where
+      as_called : line f (take u table) text slots ≡ called
+      as_called = ap (λ (k : ℕ). line f (take k table) text slots) is
 
-      as_called : line f (take (2 * n - 0) table) text slots ≡ called
-      as_called = ap (λ (k : ℕ). line f (take k table) text slots) end_is
-
-      module _ (a : Came) (part slots' : List ℕ)
-          (e : left_alone a part slots' ≡ line f (take (2 * n - 0) table) text slots)
+      module _ (a : Came) (part slots' : List ℕ) (e : left_alone a part slots' ≡ line f (take u table) text slots)
         where
           pub few_came : few_answers a ≡ true
           few_came = ap (λ (x : Line). few_answers x.came) (e ∙ as_called) ∙ few_called
 
           pub text_closed :
               (c : Closed) (out out' : List ℕ) → closed c [] out' ≡ closing (line_came f a slots' []) out →
-              closed c (part ++ drop (2 * n - 0) table) out' ≡ closing (frame_line f table text) out
+              closed c (part ++ drop u table) out' ≡ closing (frame_line f table text) out
           text_closed c out out' shown =
-              ap (on_table (part ++ drop (2 * n - 0) table)) shown
+              ap (on_table (part ++ drop u table)) shown
               ∙ on_came a
               ∙ ap (λ (x : After). closing x out)
-              (ap (λ (k : ℕ). line_came f a slots' (part ++ drop k table)) end_is
+              (ap (λ (k : ℕ). line_came f a slots' (part ++ drop k table)) is
               ∙ ap came_to (e ∙ as_called)
               ∙ came_is)
             where
@@ -155,27 +143,23 @@ module _ (f : First) (within_limits : in_limits f ≡ true) where
               on_table t x = record { run = x.run; wrote = x.wrote; table = t; out = x.out }
 
               on_came : (b : Came) →
-                  on_table (part ++ drop (2 * n - 0) table) (closing (line_came f b slots' []) out)
-                  ≡ closing (line_came f b slots' (part ++ drop (2 * n - 0) table)) out
+                  on_table (part ++ drop u table) (closing (line_came f b slots' []) out)
+                  ≡ closing (line_came f b slots' (part ++ drop u table)) out
               on_came passed_over = refl
               on_came (answered n) = refl
               on_came ended = refl
               on_came (refused n) = refl
 
--- ---- a held line, whole or too long
-module _ (f : First) (table line out : List ℕ) (held : ℕ) (x : Closing) where
-  pub frame_whole :
-      held ≤ 4096 → x ≡ closing (frame_line f table (take (held - 0) line)) out →
-      x ≡ closing (frame_line f table (held_line held line)) out
-  frame_whole short e =
-      let all : held - 0 ≡ held = omega arith in
-      e ∙ rw (all, held_whole held line short)
-
-  pub frame_long :
-      4096 < held → x ≡ closing (after (Among f) table error) out →
-      x ≡ closing (frame_line f table (held_line held line)) out
-  unfolding frame_line
-  frame_long long e = e ∙ rw (bad_line f.shape (held_line held line) (held_long held line long))
+-- ---- a line feed is as bad as a line too long
+pub long_is :
+    (d : Day) (held : ℕ) (line : List ℕ) → 4096 < held → line_in d (10 ∷ []) ≡ line_in d (held_line held line)
+unfolding line_in first_line frame_line good_first good_line all is_digit
+long_is d held line long = go d.stage
+  where
+    go : (s : Stage) → line_at s d.table (10 ∷ []) ≡ line_at s d.table (held_line held line)
+    go AtFirst = rw (bad_first (held_line held line) (held_long held line long))
+    go (Among f) = rw (bad_line f.shape (held_line held line) (held_long held line long))
+    go Ended = refl
 
 -- ---- a whole line, by the stage of its run
 module _ (run : Run) (table text out : List ℕ) where

@@ -1,8 +1,5 @@
 -- What a whole line leaves of a run, as the code has it, and the laws of its branches, by subject.
--- Closing: what is left. Printing: texts at the front of the output. First: the first line. Framing: a line of keys.
--- Ending: the end of the input.
+-- Closing: what is left. Printing: texts at the front of the output. Framing: a line of keys, and any line.
 pub mod Closing
 pub mod Printing
-pub mod First
 pub mod Framing
-pub mod Ending

@@ -1,19 +1,17 @@
--- What is printed stands at the front of the output. `feed_ends`: a text and its line feed. `error_shown`: EE.
+-- What is printed stands at the front of the output. `feed_ends`: a text and its line feed;
+-- `table_printed`: a table's words.
 -- Assumes nothing.
-use Rattle.std.specs.Prelude.{ℕ, suc, ◌+◌, ◌-◌, ◌*◌, ◌≤◌, ◌<◌, ◌≡◌, refl, List, [], ◌∷◌, ◌++◌, length, get_or, set, take, drop}
-use Rattle.std.proofs.Common.{sym, ap, ap₂, ◌∙◌, append_assoc, add-one, arith, length-append, drop-cons, length-take-le}
+use Rattle.std.specs.Prelude.{ℕ, suc, ◌+◌, ◌*◌, ◌/◌, ◌≤◌, ◌<◌, ◌≡◌, List, [], ◌∷◌, ◌++◌, length, get_or, set, drop}
+use Rattle.std.proofs.Common.{sym, ap, ap₂, ◌∙◌, append_assoc, add-one, arith, length-append, drop-cons}
 use Rattle.std.proofs.lemmas.List.{set_at}
 use Rattle.rules.specs.Lists.{at_front}
-use Rattle.frame_rules.specs.declared.First.{First}
 use Rattle.frame_rules.specs.declared.Stage.{Stage}
-use Rattle.frame_rules.specs.Digits.{digits_of}
-use Rattle.frame_digits.specs.Print.{digits_length}
 use Rattle.frame_rules.specs.declared.Run.{Run}
-use Rattle.frame_rules.specs.Frame.{after, printed, error}
+use Rattle.frame_rules.specs.Digits.{word_digits}
+use Rattle.frame_digits.specs.Print.{words_length}
+use Rattle.frame_rules.specs.Frame.{after, printed}
 use Rattle.frame_rules.specs.Feed.{run_of}
-use Rattle.frame_rules.specs.declared.LineAnswer.{LineAnswer}
-use Rattle.frame_rules.specs.Call.{line_says}
-use Rattle.frame_run.specs.Closing.{Shown, shown, printing, closed, closing, line_came}
+use Rattle.frame_run.specs.Closing.{Shown, shown, printing, closed, closing}
 
 -- a line feed behind a text that stands at the front
 pub feed_ends :
@@ -33,30 +31,13 @@ feed_ends text out out₁ k stands here room =
         ∙ sym (append_assoc text (10 ∷ []) (drop (suc (length text)) out))
         ∙ ap (λ (n : ℕ). printed text ++ drop n out) (sym (add-one (length text)) ∙ sym (length-append text (10 ∷ [])))
 
--- nothing
-pub none_shown : (out : List ℕ) → shown 0 out ≡ printing [] out
-unfolding at_front
-none_shown out = refl
-
--- EE
-pub error_shown : (out : List ℕ) → 3 ≤ length out → shown 3 (set (set (set out 0 69) 1 69) 2 10) ≡ printing error out
-unfolding at_front
-error_shown [] h = absurd (omega arith)
-error_shown (a ∷ []) h = absurd (omega arith)
-error_shown (a ∷ b ∷ []) h = absurd (omega arith)
-error_shown (a ∷ b ∷ c ∷ out) h = refl
-
--- the first n of some answers
-pub answers_shown :
-    (answers out out₁ : List ℕ) (n : ℕ) → n ≤ length answers → n ≤ 512 → 1025 ≤ length out →
-    out₁ ≡ at_front (digits_of (take (n - 0) answers)) out →
-    shown (2 * n + 1) (set out₁ (2 * n) 10) ≡ printing (printed (digits_of (take n answers))) out
-answers_shown answers out out₁ n some few room stands =
-    let all : n - 0 ≡ n = omega arith in
-    feed_ends (digits_of (take n answers)) out out₁ (2 * n)
-    (stands ∙ ap (λ (k : ℕ). at_front (digits_of (take k answers)) out) all)
-    (omega (arith, digits_length (take n answers), length-take-le n answers some))
-    (omega arith)
+-- a table's words
+pub table_printed :
+    (table out out₁ : List ℕ) → 2 * length table + 1 ≤ length out → out₁ ≡ at_front (word_digits table) out →
+    shown (4 * (length table / 2) + 1) (set out₁ (4 * (length table / 2)) 10)
+    ≡ printing (printed (word_digits table)) out
+table_printed table out out₁ room e =
+    feed_ends (word_digits table) out out₁ (4 * (length table / 2)) e (sym (words_length table)) (omega arith)
 
 -- a run at a stage, and a text printed
 pub closed_as :
@@ -65,9 +46,3 @@ pub closed_as :
     closed (record { run = run; wrote = n }) table out₁ ≡ closing (after stage table text) out
 closed_as run n table out out₁ stage text is says =
     ap₂ (λ (x : Run) (s : Shown). record { run = x; wrote = s.wrote; table = table; out = s.out }) is says
-
--- what a line came to, by the case that its answer is known to be
-pub came_as :
-    (f : First) (slots out : List ℕ) (a b : LineAnswer) → a ≡ b →
-    closing (line_came f (line_says b) slots []) out ≡ closing (line_came f (line_says a) slots []) out
-came_as f slots out a b e = ap (λ (x : LineAnswer). closing (line_came f (line_says x) slots []) out) (sym e)

@@ -14,7 +14,10 @@ slice_bounds-end-start c =
 
 pub end-more-requires : goal.end-more-requires
 end-more-requires c =
-    record { fact_1 = finish_fits _ _ c.requires _ _ _ c.last_line-c.ensures; fact_2 = finish_room _ _ c.requires _ _ _ c.last_line-c.ensures _ (omega arith) }
+    record {
+      fit = finish_fits _ _ c.requires _ _ _ c.last_line-c.ensures;
+      room = finish_room _ _ c.requires _ _ _ c.last_line-c.ensures _ (omega arith);
+    }
 
 pub overflow_add-result : goal.overflow_add-result
 overflow_add-result c =

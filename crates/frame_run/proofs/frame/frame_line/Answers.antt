@@ -1,17 +1,15 @@
--- `frame_line` meets its contract: the line is held whole, or it is too long.
+-- `frame_line` meets its contract: the call for one line on the used part, and what it came to, printed.
 -- Assumes nothing.
-use Rattle.std.proofs.Common.{rules}
-use Rattle.frame_rules.specs.declared.Stage.TheVariants.{Among}
-use Rattle.frame_rules.specs.Frame.{error}
-use Rattle.frame_run.specs.Printing.{closed_as}
-use Rattle.frame_run.specs.Framing.{frame_whole, frame_long}
+use Rattle.std.proofs.Common.{refl}
+use Rattle.frame_run.specs.Framing.{few_came, text_closed}
 use Rattle.frame_run.proofs.frame.frame_line.Goals as goal
 
-pub returns-then-held-le4096 : goal.returns-then-held-le4096
-returns-then-held-le4096 c = search (rules, frame_whole)
+pub print_line-requires-clause-few : goal.print_line-requires-clause-few
+print_line-requires-clause-few c =
+    few_came _ c.requires.limits c.args.table.now c.args.text.now _ c.requires.size refl _ c.used.ensures.value _ _ _
+    c.line_by-answer.ensures
 
 pub returns : goal.returns
 returns c =
-    frame_long _ _ _ _ _ _ c.if-held-le4096.false
-    (closed_as _ _ c.args.table.now c.args.out.now _ (Among c.args.f) error
-    c.run_at.ensures c.error-n.ensures)
+    text_closed _ c.requires.limits c.args.table.now c.args.text.now _ c.requires.size refl _ c.used.ensures.value _ _ _
+    c.line_by-answer.ensures _ _ _ c.print_line.ensures
