@@ -2,72 +2,91 @@
 // action prints its refusal and the record that it leaves; the end prints the words.
 #![tactic(auto)]
 
-mod pieces;
+use std::alloc::Global;
+use std::io::{self, BufRead, BufReader, BufWriter, Read, Write};
+use test_schedule::run::Run;
 
-ghost use Rattle.std.specs.Prelude.{◌≡◌, ◌≤◌, length};
-ghost use Rattle.schedule.specs.Held.{Held};
+// A line that fills all this room is longer than any good line.
+const ROOM: u64 = 65545;
 
-use crate::pieces::{State, close, turn, written};
-use test_schedule::run::{begun, end_of};
+// What a bad line prints.
+const BAD: &[u8] = b"EE\n";
 
-// Nothing says that the input ends, so the turns are counted down from a number that no run uses up.
-fn all_pieces(
-    rt: &HostRuntime,
-    piece: &mut [u8],
-    line: &mut [u8],
-    table: &mut [u8],
-    out: &mut [u8],
-) -> State
-    requires { length out.old ≡ 65577 }
-    ensures { Held result line.new }
-{
-    let mut s = State {
-        run: begun(),
-        held: 0,
-        filled: 0,
-        more: true,
+// The next line without its line feed, which the last may lack; None at the end of the input. Of a line that is too
+// long the rest is skipped.
+fn next_line(alloc: Global, input: &mut impl BufRead) -> io::Result<Option<Vec<u8>>> {
+    let mut line = Vec::new(alloc);
+    if input.take(ROOM).read_until(b'\n', &mut line)? == 0 {
+        return Ok(None);
+    }
+    if line.last() == Some(&b'\n') {
+        line.pop();
+    } else {
+        input.skip_until(b'\n')?;
+    }
+    Ok(Some(line))
+}
+
+// The first line and the second. None where one of them is bad or missing; behind a bad first line none is read.
+fn begun(alloc: Global, input: &mut impl BufRead) -> io::Result<Option<Run>> {
+    let Some(first) = next_line(alloc, input)? else {
+        return Ok(None);
     };
-    let mut turns = u64::MAX;
-    while turns > 0 {
-        s = turn(rt, s, piece, line, table, out);
-        if s.more {
-            turns -= 1;
-        } else {
-            return s;
+    let Some(mut run) = Run::begun(alloc, &first)? else {
+        return Ok(None);
+    };
+    let Some(second) = next_line(alloc, input)? else {
+        return Ok(None);
+    };
+    Ok(run.read_words(&second).then_some(run))
+}
+
+// Each action up to the end of the input. What waits is written before more input is waited for. Nothing says that the
+// input ends, so the lines are counted to a number that no run uses up.
+fn actions<R: Read + Drop>(
+    alloc: Global,
+    run: &mut Run,
+    input: &mut BufReader<R>,
+    out: &mut impl Write,
+) -> io::Result<()> {
+    for _ in 0..u64::MAX {
+        if !input.buffer().contains(&b'\n') {
+            out.flush()?;
+        }
+        let Some(line) = next_line(alloc, input)? else {
+            return Ok(());
+        };
+        match run.act(&line) {
+            Some(shown) => writeln!(out, "{shown}")?,
+            None => out.write_all(BAD)?,
         }
     }
-    s
+    Ok(())
 }
 
-// The last line may lack its line feed.
-fn last_line(rt: &impl Print, s: State, line: &[u8], table: &mut [u8], out: &mut [u8]) -> State
-    requires { (Held s line.now) × (length out.old ≡ 65577) }
-    ensures { result.filled ≤ 65536 }
-{
-    if s.held > 0 {
-        return close(rt, s, line, table, out);
+fn words(out: &mut impl Write, table: &[u8]) -> io::Result<()> {
+    for pair in table.chunks_exact(2) {
+        write!(out, "{:04X}", u16::from_le_bytes([pair[0], pair[1]]))?;
     }
-    s
+    out.write_all(b"\n")
 }
 
-// What is printed last is laid where lines were held.
-fn finish(rt: &impl Print, s: State, line: &mut [u8], table: &mut [u8], out: &mut [u8])
-    requires { (Held s line.old) × ((length out.old ≡ 65577) × (41 ≤ length line.old)) }
-{
-    let t = last_line(rt, s, line, table, out);
-    let filled = t.filled;
-    let run = t.run;
-    if written(rt, &out[0..filled]) {
-        let n = end_of(run, table, line);
-        written(rt, &line[0..n]);
+fn play(rt: &HostRuntime) -> io::Result<()> {
+    let alloc = rt.alloc();
+    let mut input = BufReader::new(alloc, rt.stdin())?;
+    let mut out = BufWriter::new(alloc, io::writer(rt))?;
+    match begun(alloc, &mut input)? {
+        Some(mut run) => {
+            actions(alloc, &mut run, &mut input, &mut out)?;
+            words(&mut out, run.table())?;
+        }
+        None => out.write_all(BAD)?,
     }
+    out.flush()
 }
 
+// A read or a write that fails ends the run, and no error is told. What the lines before it print is written, when the
+// buffer of the output is let go.
 fn main(rt: HostRuntime) {
-    let mut piece = [0u8; 65536];
-    let mut line = [0u8; 65545];
-    let mut table = [0u8; 32772];
-    let mut out = [0u8; 65577];
-    let s = all_pieces(&rt, &mut piece, &mut line, &mut table, &mut out);
-    finish(&rt, s, &mut line, &mut table, &mut out);
+    let _ = play(&rt);
 }

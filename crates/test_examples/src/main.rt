@@ -2,91 +2,55 @@
 // Whatever follows a colon is what the call answered and what it left in the table.
 #![tactic(auto)]
 
-use rules::{Done, FillAnswer, FindAnswer, ListAnswer, PutAnswer};
+use rules::PutAnswer;
 use std::io;
 use table_find::fill::fill;
 use table_find::find::find;
 use table_list::list::list;
 use table_put::build::build;
 use table_put::put::put;
+use test_print::{Keys, Words};
 
 fn show_build(rt: &impl Print, m: u32, r: u32, table: &mut [u8], keys: &[u32]) -> io::Result<()> {
-    rt.write_all(b"build")?;
-    test_print::keys(rt, keys)?;
-    rt.write_all(b":")?;
-    let answer = build(m, r, table, keys);
-    match answer {
-        Done::Accepted => test_print::words(rt, table)?,
-        Done::Refused(n) => test_print::refused(rt, n)?,
+    match build(m, r, table, keys) {
+        Ok(()) => println!(rt; "build{}:{}", Keys(keys), Words(table)),
+        Err(refusal) => println!(rt; "build{}: {refusal}", Keys(keys)),
     }
-    test_print::end_line(rt)
-}
-
-fn show_list(rt: &impl Print, m: u32, r: u32, table: &[u8]) -> io::Result<()> {
-    let mut slots = [0u32; 8];
-    rt.write_all(b"list of")?;
-    test_print::words(rt, table)?;
-    rt.write_all(b":")?;
-    let answer = list(m, r, table, &mut slots);
-    match answer {
-        ListAnswer::Listed(n) => show_listed(rt, &slots, n)?,
-        ListAnswer::Refused(n) => test_print::refused(rt, n)?,
-    }
-    test_print::end_line(rt)
 }
 
 // The keys that were listed stand at the front.
-fn show_listed(rt: &impl Print, slots: &[u32], n: usize) -> io::Result<()> {
-    if n <= slots.len() {
-        test_print::keys(rt, &slots[0..n])?;
+fn show_list(rt: &impl Print, m: u32, r: u32, table: &[u8]) -> io::Result<()> {
+    let mut slots = [0u32; 8];
+    match list(m, r, table, &mut slots) {
+        Ok(n) => {
+            let listed = slots.get(..n).unwrap_or(&[]);
+            println!(rt; "list of{}:{}", Words(table), Keys(listed))
+        }
+        Err(refusal) => println!(rt; "list of{}: {refusal}", Words(table)),
     }
-    Ok(())
 }
 
 fn show_find(rt: &impl Print, m: u32, r: u32, table: &[u8], key: u32) -> io::Result<()> {
-    rt.write_all(b"find ")?;
-    test_print::key(rt, key)?;
-    rt.write_all(b":")?;
-    let answer = find(m, r, table, key);
-    match answer {
-        FindAnswer::Absent => {
-            rt.write_all(b" absent")?;
-        }
-        FindAnswer::Present => {
-            rt.write_all(b" present")?;
-        }
-        FindAnswer::Refused(n) => test_print::refused(rt, n)?,
+    match find(m, r, table, key) {
+        Ok(false) => println!(rt; "find {key:02X}: absent"),
+        Ok(true) => println!(rt; "find {key:02X}: present"),
+        Err(refusal) => println!(rt; "find {key:02X}: {refusal}"),
     }
-    test_print::end_line(rt)
 }
 
 fn show_put(rt: &impl Print, m: u32, r: u32, table: &mut [u8], key: u32) -> io::Result<()> {
-    rt.write_all(b"put ")?;
-    test_print::key(rt, key)?;
-    rt.write_all(b":")?;
-    let answer = put(m, r, table, key);
-    match answer {
-        PutAnswer::Found => {
-            rt.write_all(b" found")?;
-        }
-        PutAnswer::Inserted => {
-            rt.write_all(b" inserted")?;
-        }
-        PutAnswer::Refused(n) => test_print::refused(rt, n)?,
+    match put(m, r, table, key) {
+        Ok(PutAnswer::Found) => println!(rt; "put {key:02X}: found"),
+        Ok(PutAnswer::Inserted) => println!(rt; "put {key:02X}: inserted"),
+        Err(refusal) => println!(rt; "put {key:02X}: {refusal}"),
     }
-    test_print::end_line(rt)
 }
 
 fn show_fill(rt: &impl Print, m: u32, r: u32, table: &[u8]) -> io::Result<()> {
-    rt.write_all(b"fill: ")?;
-    let answer = fill(m, r, table);
-    match answer {
-        FillAnswer::Figure(x) => {
-            print!(rt; "{x}")?;
-        }
-        FillAnswer::Refused(n) => test_print::refused(rt, n)?,
+    match fill(m, r, table) {
+        Ok(figure) => println!(rt; "fill: {figure}"),
+        Err(refusal) => println!(rt; "fill: {refusal}"),
     }
-    test_print::end_line(rt)
 }
 
 fn four_keys(rt: &impl Print) -> io::Result<()> {

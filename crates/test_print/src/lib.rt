@@ -1,60 +1,31 @@
-// What the example programs print: bytes, keys and words in capital hexadecimal digits, and a refusal by its number.
+// How the example programs show keys, and the words of a table: capital hexadecimal digits, a blank before each.
 // Nothing here is part of the table.
 #![tactic(auto)]
 
-ghost use Rattle.std.specs.Prelude.{◌<◌};
+use std::fmt;
 
-use rules::Refusal;
-use std::io;
-use table_packed::refusal_number;
+// Two digits each: the keys of the examples have no more.
+#[derive(Clone, Copy)]
+pub struct Keys<'a>(pub &'a [u32]);
 
-fn digit(d: u8) -> u8
-    requires { d < 16 }
-{
-    match d {
-        0..=9 => 48 + d,
-        _ => 55 + d,
+impl fmt::Display for Keys<'_> {
+    fn fmt<W: fmt::Write>(&self, f: &mut fmt::Formatter<W>) -> fmt::Result {
+        for key in self.0 {
+            write!(f, " {key:02X}")?;
+        }
+        Ok(())
     }
 }
 
-fn byte(rt: &impl Print, b: u8) -> io::Result<()> {
-    let text = [digit(b / 16), digit(b % 16)];
-    rt.write_all(&text)
-}
+// Four digits each. In the table a word is two bytes, low byte first.
+#[derive(Clone, Copy)]
+pub struct Words<'a>(pub &'a [u8]);
 
-pub fn key(rt: &impl Print, k: u32) -> io::Result<()> {
-    byte(rt, (k % 256) as u8)
-}
-
-// A blank and a key, for each key.
-pub fn keys(rt: &impl Print, ks: &[u32]) -> io::Result<()> {
-    for k in ks {
-        rt.write_all(b" ")?;
-        key(rt, *k)?;
+impl fmt::Display for Words<'_> {
+    fn fmt<W: fmt::Write>(&self, f: &mut fmt::Formatter<W>) -> fmt::Result {
+        for pair in self.0.chunks_exact(2) {
+            write!(f, " {:04X}", u16::from_le_bytes([pair[0], pair[1]]))?;
+        }
+        Ok(())
     }
-    Ok(())
-}
-
-// A word is two bytes, low byte first.
-pub fn word(rt: &impl Print, low: u8, high: u8) -> io::Result<()> {
-    byte(rt, high)?;
-    byte(rt, low)
-}
-
-// A blank and a word, for each word of a table.
-pub fn words(rt: &impl Print, table: &[u8]) -> io::Result<()> {
-    for i in 0..table.len() / 2 {
-        rt.write_all(b" ")?;
-        word(rt, table[2 * i], table[2 * i + 1])?;
-    }
-    Ok(())
-}
-
-pub fn refused(rt: &impl Print, n: Refusal) -> io::Result<()> {
-    let number = refusal_number(n);
-    print!(rt; " refused {number}")
-}
-
-pub fn end_line(rt: &impl Print) -> io::Result<()> {
-    rt.write_all(b"\n")
 }

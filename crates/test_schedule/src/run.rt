@@ -1,157 +1,100 @@
-// A run of a schedule: how far it is, and its records. `line_in` takes one line, `end_of` the end of the input.
-// The table is lent whole; the shape uses a part of it.
-ghost use Rattle.std.specs.Prelude.{◌≡◌, ◌≤◌, length};
+// A run of a schedule: its table and its records. The first line begins it, the second may say the words, and each
+// further line is an action: a step, a give, or a record stored as it is, by its length.
+ghost use Rattle.std.specs.Prelude.{◌≡◌, IfNone};
 
-use crate::action::{action, put_bad};
-use crate::start::{second_line, used_by};
-use frame_digits::print::put_words;
-use frame_first::first::read_first;
-use frame_rules::{First, FirstLine};
-use rules::Task;
+use crate::numbers::{Numbers, first_line, numbers_at};
+use crate::record::{Shown, record_in, two};
+use frame_digits::read::Digits;
+use frame_first::table::read_table;
+use rules::{Refusal, Task};
+use std::alloc::{AllocError, Global};
+use table_words::shape::GoodShape;
 use task_fits::record::no_task;
+use task_records::{give, step};
 
-#[derive(Clone, Copy)]
-pub enum Reached {
-    AtFirst,
-    AtSecond(First),
-    Among(First),
-    Ended,
-}
+// As many as two digits can say, so that each call is lent as many as its numbers say. It refuses more than 16.
+const RECORDS: usize = 255;
 
-// How far the run is, its records, and how many bytes the last line printed.
-#[derive(Clone, Copy)]
+// The first line's numbers, and what the lines so far have made of the table and the records.
+#[derive(Drop)]
 pub struct Run {
-    pub stage: Reached,
-    pub tasks: [Task; 16],
-    pub wrote: usize,
+    first: Numbers,
+    table: Vec<u8>,
+    tasks: [Task; RECORDS],
 }
 
-pub fn begun() -> Run {
-    Run {
-        stage: Reached::AtFirst,
-        tasks: [no_task(); 16],
-        wrote: 0,
-    }
-}
-
-// The run ends; n bytes are printed first.
-pub fn ended(run: Run, n: usize) -> Run
-    ensures { result.wrote ≡ n }
-{
-    let tasks = run.tasks;
-    Run {
-        stage: Reached::Ended,
-        tasks: tasks,
-        wrote: n,
-    }
-}
-
-pub fn is_ended(run: Run) -> bool {
-    let stage = run.stage;
-    match stage {
-        Reached::Ended => true,
-        _ => false,
-    }
-}
-
-// A bad first line ends the run.
-fn at_first(run: Run, line: &[u8], out: &mut [u8]) -> Run
-    requires { 41 ≤ length out.old }
-    ensures { result.wrote ≤ 41 }
-{
-    let tasks = run.tasks;
-    let first = read_first(line);
-    match first {
-        FirstLine::Good(f) => Run {
-            stage: Reached::AtSecond(f),
-            tasks: tasks,
-            wrote: 0,
-        },
-        FirstLine::Bad => ended(run, put_bad(out)),
-    }
-}
-
-// So does a bad second line.
-fn at_second(run: Run, f: First, line: &[u8], table: &mut [u8], out: &mut [u8]) -> Run
-    requires { 41 ≤ length out.old }
-    ensures { result.wrote ≤ 41 }
-{
-    let tasks = run.tasks;
-    if second_line(f, line, table) {
-        return Run {
-            stage: Reached::Among(f),
-            tasks: tasks,
-            wrote: 0,
+impl Run {
+    /// The first line. None where it is bad.
+    pub fn begun(alloc: Global, line: &[u8]) -> Result<Option<Run>, AllocError> {
+        let Some(first) = first_line(line) else {
+            return Ok(None);
         };
+        let sh = GoodShape { shape: first.shape };
+        let table = vec![in alloc; 0; 2 * sh.places() as usize]?;
+        let tasks = [no_task(); RECORDS];
+        Ok(Some(Run {
+            first,
+            table,
+            tasks,
+        }))
     }
-    ended(run, put_bad(out))
-}
 
-fn among(run: Run, f: First, line: &[u8], table: &mut [u8], out: &mut [u8]) -> Run
-    requires { 41 ≤ length out.old }
-    ensures { result.wrote ≤ 41 }
-{
-    let before = run.tasks;
-    let acted = action(f, before, line, table, out);
-    let tasks = acted.tasks;
-    Run {
-        stage: Reached::Among(f),
-        tasks: tasks,
-        wrote: acted.wrote,
+    /// The second line: empty, which leaves the words zero, or all the table's words. Whether it is good.
+    pub fn read_words(&mut self, line: &[u8]) -> bool {
+        line.is_empty() || read_table(self.first.shape, line, &mut self.table)
     }
-}
 
-// One line, without its line feed. What it prints stands at the front of out.
-pub fn line_in(run: Run, line: &[u8], table: &mut [u8], out: &mut [u8]) -> Run
-    requires { 41 ≤ length out.old }
-    ensures { result.wrote ≤ 41 }
-{
-    let stage = run.stage;
-    match stage {
-        Reached::AtFirst => at_first(run, line, out),
-        Reached::AtSecond(f) => {
-            let used = used_by(f);
-            if used <= table.len() {
-                return at_second(run, f, line, &mut table[0..used], out);
-            }
-            ended(run, 0)
+    /// The table's bytes, two a word, low byte first.
+    pub fn table(&self) -> &[u8] {
+        &self.table
+    }
+
+    /// An action. None where the line is malformed, which is passed over.
+    pub fn act(&mut self, line: &[u8]) -> Option<Shown>
+        ensures { IfNone result (self.new ≡ self.old) }
+    {
+        if line.len() < 2 {
+            return None;
         }
-        Reached::Among(f) => {
-            let used = used_by(f);
-            if used <= table.len() {
-                return among(run, f, line, &mut table[0..used], out);
-            }
-            ended(run, 0)
-        }
-        Reached::Ended => ended(run, 0),
+        let digits = Digits::read(line)?;
+        let i = usize::from(two(digits, 0));
+        let first = self.first;
+        let done = match line.len() {
+            2 => self.step(first, i),
+            8 => self.step(numbers_at(digits, 2), i),
+            10 => self.give(first, digits.number(2, 8), i),
+            16 => self.give(numbers_at(digits, 10), digits.number(2, 8), i),
+            40 => self.store(i, record_in(digits)),
+            _ => return None,
+        };
+        let task = self.record(i);
+        Some(Shown { done, task })
     }
-}
 
-// The words of the shape's part of a table, and a line feed; as many bytes as are answered.
-fn put_table(f: First, table: &[u8], out: &mut [u8]) -> usize
-    ensures { result ≤ length out.new }
-{
-    let used = used_by(f);
-    if used <= table.len() {
-        if 2 * used < out.len() {
-            put_words(&table[0..used], out);
-            out[2 * used] = 10;
-            return 2 * used + 1;
-        }
+    fn step(&mut self, by: Numbers, i: usize) -> Result<(), Refusal> {
+        let table = &mut self.table[..];
+        let tasks = &mut self.tasks[..];
+        let lent = &mut tasks[..usize::from(by.records)];
+        step(by.shape.m, by.shape.r, table, lent, i)
     }
-    0
-}
 
-// The end of the input: the words. A first or second line that is missing is a bad one.
-pub fn end_of(run: Run, table: &[u8], out: &mut [u8]) -> usize
-    requires { 41 ≤ length out.old }
-    ensures { result ≤ length out.new }
-{
-    let stage = run.stage;
-    match stage {
-        Reached::AtFirst => put_bad(out),
-        Reached::AtSecond(_) => put_bad(out),
-        Reached::Among(f) => put_table(f, table, out),
-        Reached::Ended => 0,
+    fn give(&mut self, by: Numbers, key: u32, i: usize) -> Result<(), Refusal> {
+        let lent = &mut self.tasks[..usize::from(by.records)];
+        give(by.shape.m, by.shape.r, key, lent, i)
+    }
+
+    fn store(&mut self, i: usize, task: Task) -> Result<(), Refusal> {
+        let lent = &mut self.tasks[..usize::from(self.first.records)];
+        let stored = lent.get_mut(i).ok_or(Refusal::BadTask)?;
+        *stored = task;
+        Ok(())
+    }
+
+    // All zero where the first line has no such task.
+    fn record(&self, i: usize) -> Task {
+        self.tasks[..usize::from(self.first.records)]
+            .get(i)
+            .copied()
+            .unwrap_or_else(no_task)
     }
 }

@@ -1,5 +1,5 @@
-// The numbers that a give or a step goes by: m, r and the number of records. The program schedule keeps 16 records, of
-// which a call is lent the first so many. Also ways to get the numbers wrong, and what is wrong with them.
+// The numbers that a give or a step goes by: m, r and the number of records. Of the records that the program schedule
+// keeps a call is lent the first so many. Also ways to get the numbers wrong, and what is wrong with them.
 
 use crate::random::Random;
 use crate::table::Shape;

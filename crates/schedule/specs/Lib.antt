@@ -1,2 +1,0 @@
--- What holds of the state between two calls.
-pub mod Held

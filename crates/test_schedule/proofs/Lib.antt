@@ -1,0 +1,2 @@
+-- What the numbers of a good first line keep to.
+mod Good
