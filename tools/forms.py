@@ -11,14 +11,19 @@ import subprocess
 import sys
 
 
+def said(*words):
+    return subprocess.run(["git", *words], check=True, capture_output=True, text=True).stdout
+
+
+def texts(commit, pattern):
+    """Each file of the commit whose path is of the pattern, with its text."""
+    for name in said("ls-tree", "-r", "--name-only", commit, "crates").split():
+        if re.fullmatch(pattern, name):
+            yield name, said("show", f"{commit}:{name}")
+
+
 def sources(commit):
-    names = subprocess.run(
-        ["git", "ls-tree", "-r", "--name-only", commit, "crates"], check=True, capture_output=True, text=True
-    ).stdout.split()
-    for name in names:
-        if re.fullmatch(r"crates/\w+/src/.*\.rt", name):
-            text = subprocess.run(["git", "show", f"{commit}:{name}"], check=True, capture_output=True, text=True).stdout
-            yield name, text
+    return texts(commit, r"crates/\w+/src/.*\.rt")
 
 
 def lines(files, pattern):
@@ -116,13 +121,8 @@ def together(files):
 
 def proofs(commit):
     """The lines of each answer and invariant."""
-    names = subprocess.run(
-        ["git", "ls-tree", "-r", "--name-only", commit, "crates"], check=True, capture_output=True, text=True
-    ).stdout.split()
-    for name in names:
-        if re.fullmatch(r"crates/\w+/proofs/.+/(Answers|Invariants)\.antt", name):
-            text = subprocess.run(["git", "show", f"{commit}:{name}"], check=True, capture_output=True, text=True).stdout
-            yield name, f"{text.count(chr(10))} lines"
+    for name, text in texts(commit, r"crates/\w+/proofs/.+/(Answers|Invariants)\.antt"):
+        yield name, f"{text.count(chr(10))} lines"
 
 
 def grep(pattern):

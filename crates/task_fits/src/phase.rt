@@ -46,7 +46,7 @@ impl TryFrom<u8> for Phase {
             11 => Ok(Phase::FreeLeft),
             12 => Ok(Phase::FreeRight),
             13 => Ok(Phase::Done),
-            _ => Err(UnknownPhase(number)),
+            14..=255 => Err(UnknownPhase(number)),
         }
     }
 }
