@@ -3,5 +3,5 @@
 #![tactic(auto)]
 
 mod numbers;
-pub mod record;
+mod record;
 pub mod run;

@@ -1,13 +1,13 @@
 // A run of a schedule: its table and its records. The first line begins it, the second may say the words, and each
 // further line is an action: a step, a give, or a record stored as it is, by its length.
-ghost use Rattle.std.specs.Prelude.{◌≡◌, IfNone};
+ghost use Rattle.std.specs.Prelude.{◌≡◌, false, IfNone, IfSome, min, replicate, take};
+ghost use Rattle.rules.specs.Record.{no_task};
 
 use crate::numbers::{Numbers, first_line, numbers_at};
 use crate::record::{Shown, record_in, two};
 use frame_digits::read::Digits;
 use frame_first::table::read_table;
 use rules::{Refusal, Task};
-use std::alloc::{AllocError, Global};
 use table_words::shape::GoodShape;
 use task_fits::record::no_task;
 use task_records::{give, step};
@@ -15,38 +15,48 @@ use task_records::{give, step};
 // As many as two digits can say, so that each call is lent as many as its numbers say. It refuses more than 16.
 const RECORDS: usize = 255;
 
-// The first line's numbers, and what the lines so far have made of the table and the records.
-#[derive(Drop)]
+// The bytes of the largest table that a first line can ask for.
+const TABLE: usize = 32772;
+
+// The first line's numbers, and what the lines so far have made of the table and the records. Of the table's bytes
+// the shape uses the first ones.
+#[derive(Clone, Copy)]
 pub struct Run {
     first: Numbers,
-    table: Vec<u8>,
+    used: usize,
+    table: [u8; TABLE],
     tasks: [Task; RECORDS],
 }
 
 impl Run {
     /// The first line. None where it is bad.
-    pub fn begun(alloc: Global, line: &[u8]) -> Result<Option<Run>, AllocError> {
-        let Some(first) = first_line(line) else {
-            return Ok(None);
-        };
+    pub fn begun(line: &[u8]) -> Option<Run>
+        ensures { IfSome result (λ run. (run.table ≡ replicate 32772 0) × (run.tasks ≡ replicate 255 no_task)) }
+    {
+        let first = first_line(line)?;
         let sh = GoodShape { shape: first.shape };
-        let table = vec![in alloc; 0; 2 * sh.places() as usize]?;
-        let tasks = [no_task(); RECORDS];
-        Ok(Some(Run {
+        Some(Run {
             first,
-            table,
-            tasks,
-        }))
+            used: (2 * sh.places() as usize).min(TABLE),
+            table: [0; TABLE],
+            tasks: [no_task(); RECORDS],
+        })
     }
 
     /// The second line: empty, which leaves the words zero, or all the table's words. Whether it is good.
-    pub fn read_words(&mut self, line: &[u8]) -> bool {
-        line.is_empty() || read_table(self.first.shape, line, &mut self.table)
+    #[tactic(auto, unfolding(frame_rules::specs::TableLine::read_table))]
+    pub fn read_words(&mut self, line: &[u8]) -> bool
+        ensures { result ≡ false → self.new ≡ self.old }
+    {
+        let used = self.used.min(TABLE);
+        line.is_empty() || read_table(self.first.shape, line, &mut self.table[..used])
     }
 
     /// The table's bytes, two a word, low byte first.
-    pub fn table(&self) -> &[u8] {
-        &self.table
+    pub fn table(&self) -> &[u8]
+        ensures { result.now ≡ take (min self.now.used 32772) self.now.table }
+    {
+        &self.table[..self.used.min(TABLE)]
     }
 
     /// An action. None where the line is malformed, which is passed over.
@@ -72,10 +82,11 @@ impl Run {
     }
 
     fn step(&mut self, by: Numbers, i: usize) -> Result<(), Refusal> {
+        let used = self.used.min(TABLE);
         let table = &mut self.table[..];
         let tasks = &mut self.tasks[..];
         let lent = &mut tasks[..usize::from(by.records)];
-        step(by.shape.m, by.shape.r, table, lent, i)
+        step(by.shape.m, by.shape.r, &mut table[..used], lent, i)
     }
 
     fn give(&mut self, by: Numbers, key: u32, i: usize) -> Result<(), Refusal> {
