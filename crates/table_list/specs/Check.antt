@@ -26,6 +26,7 @@ use Rattle.table_cluster.specs.Run.{run_step, run_end}
 use Rattle.table_cluster.specs.Check.{rises, rises_to, rises_ends, over_low, over_lock, void_remainder}
 use Rattle.table_list.specs.declared.check.Order.{Order}
 use Rattle.table_list.specs.declared.check.Gaps.{Gaps}
+use Rattle.table_list.specs.declared.check.Check.{Check}
 
 -- a word before another: it ends its group or its remainder is below the other's, or it is void
 unfoldable pub stands : Word → Word → Bool
@@ -51,22 +52,25 @@ order_of sh ws = record { tidy = tidy ws && all (is_low (remainders sh)) ws; loc
 unfoldable pub gaps_of : List Word → Gaps
 gaps_of ws = record { even = even_gaps 0 0 ws; keys = count is_occupied ws }
 
+unfoldable pub check_of : Shape → List Word → Check
+check_of sh ws = record { sound = sound sh ws; locked = locked ws; keys = count is_occupied ws }
+
 -- the number of keys, or what the table is refused by: soundness comes before the locks
-unfoldable pub check_of : Shape → List Word → Result ℕ Refusal
-check_of sh ws = cond (sound sh ws) (cond (locked ws) (Err Locked) (Ok (count is_occupied ws))) (Err Unsound)
+unfoldable pub passed : Check → Result ℕ Refusal
+passed c = cond c.sound (cond c.locked (Err Locked) (Ok c.keys)) (Err Unsound)
 
 -- a table that passes is sound and not locked, and the number is that of its occupied words
 pub check_good :
-    (sh : Shape) (ws : List Word) (n : ℕ) → Ok n ≡ check_of sh ws →
+    (sh : Shape) (ws : List Word) (n : ℕ) → Ok n ≡ passed (check_of sh ws) →
     (sound sh ws ≡ true) × (locked ws ≡ false) × (n ≡ count is_occupied ws)
-unfolding check_of
+unfolding check_of passed
 check_good sh ws n e = grind arith
 
 -- a table that does not pass is not listed
 pub check_refused :
-    (sh : Shape) (ws : List Word) (slots : List ℕ) (n : Refusal) → Err n ≡ check_of sh ws →
+    (sh : Shape) (ws : List Word) (slots : List ℕ) (n : Refusal) → Err n ≡ passed (check_of sh ws) →
     leaves (refuses (number_of_refusal n)) slots ≡ list_in sh ws slots
-unfolding check_of list_in
+unfolding check_of passed list_in
 check_refused sh ws slots n e = grind arith
 
 -- ---- the first pass: what is known of the words behind, and the words ws to come

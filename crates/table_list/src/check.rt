@@ -26,6 +26,30 @@ struct Gaps {
     keys: u32,
 }
 
+// Is the table sound, is a place locked, how many places are occupied.
+#[derive(Clone, Copy, Debug, PartialEq, Eq)]
+pub struct Check {
+    pub sound: bool,
+    pub locked: bool,
+    pub keys: u32,
+}
+
+impl Check {
+    // The number of keys of a table that is sound and not locked. Soundness comes before the locks.
+    #[tactic(auto, unfolding(crate::specs::Check::passed))]
+    pub fn passes(self) -> Result<u32, Refusal>
+        ensures { result ≡ spec.passed self }
+    {
+        if !self.sound {
+            Err(Refusal::Unsound)
+        } else if self.locked {
+            Err(Refusal::Locked)
+        } else {
+            Ok(self.keys)
+        }
+    }
+}
+
 // Whether the word v may stand before the word w.
 fn stands(v: u16, w: u16) -> bool
     ensures { result ≡ spec.stands (word_of v) (word_of w) }
@@ -71,18 +95,15 @@ fn check_gaps(t: Table) -> Gaps
     Gaps { even, keys }
 }
 
-// The number of keys of a table that is sound and not locked. Soundness comes before the locks.
-pub fn check_table(t: Table) -> Result<u32, Refusal>
+// Each field is right for every table, sound or not.
+pub fn check_table(t: Table) -> Check
     ensures { result ≡ spec.check_of t.entry.sh.shape (words_of t.entry.bytes.now) }
 {
     let order = check_order(t);
     let gaps = check_gaps(t);
-    let sound = guards_void(t.sh, t.bytes) & order.tidy & gaps.even;
-    if !sound {
-        Err(Refusal::Unsound)
-    } else if order.locked {
-        Err(Refusal::Locked)
-    } else {
-        Ok(gaps.keys)
+    Check {
+        sound: guards_void(t.sh, t.bytes) & order.tidy & gaps.even,
+        locked: order.locked,
+        keys: gaps.keys,
     }
 }

@@ -15,7 +15,7 @@ fn list_in(t: Table, slots: &mut [u32]) -> Result<usize, Refusal>
     ensures { leaves (number_says result) slots.new
         ≡ list_in t.entry.sh.shape (words_of t.entry.bytes.now) slots.old }
 {
-    let n = check_table(t)? as usize;
+    let n = check_table(t).passes()? as usize;
     if n <= slots.len() {
         write_keys(t, n, slots);
         Ok(n)

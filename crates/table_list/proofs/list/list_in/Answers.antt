@@ -1,13 +1,13 @@
 -- `list_in` meets its contract: what does not pass is not listed, then 9, and only then the keys.
 -- Assumes nothing.
-use Rattle.std.proofs.Common.{◌≡◌, ◌∙◌, true, false, length, le-leb}
+use Rattle.std.proofs.Common.{◌≡◌, ◌∙◌, ap, true, false, length, le-leb}
 use Rattle.std.proofs.lemmas.Bool.{lt-leb}
 use Rattle.rules.specs.Bytes.{words_of}
 use Rattle.rules.specs.Table.{sound, locked, list}
 use Rattle.rules.specs.Listing.{list_in}
 use Rattle.table_words.specs.Range.{remainders_high}
 use Rattle.table_words.specs.Layout.{words_length}
-use Rattle.table_list.specs.Check.{check_good}
+use Rattle.table_list.specs.Check.{check_good, passed}
 use Rattle.table_list.specs.Queue.{keys_counted}
 use Rattle.table_list.proofs.list.list_in.Goals as goal
 use Rattle.table_list.proofs.list.list_in.Goals.{In_ok-n}
@@ -18,7 +18,7 @@ module _ (c : In_ok-n) where
       × (locked (words_of c.args.t.bytes.now) ≡ false)
       × (c.in_ok-n.field-0 ≡ length (list c.args.t.sh.shape (words_of c.args.t.bytes.now)))
   told =
-      let good = check_good _ _ _ c.in_ok-n.ensures in (
+      let good = check_good _ _ _ (c.in_ok-n.ensures ∙ ap passed c.check_table.ensures) in (
         good.0,
         good.1,
         good.2
