@@ -73,7 +73,7 @@ fn play(rt: &HostRuntime) -> io::Result<()> {
     out.flush()
 }
 
-// A read or a write that fails ends the run, and no error is told. What the lines before it print is written already.
+// A read or a write that fails ends the run, and no error is told. Before a read all that waits is written.
 fn main(rt: HostRuntime) {
     let _ = play(&rt);
 }

@@ -1,9 +1,12 @@
-// Standard output in fixed memory: what is printed waits, and is written when that is asked for, or where there is no
-// more room.
+// Standard output in fixed memory: what is printed waits, and is written when that is asked for, or behind a line where
+// there is no room for the next one.
 use std::io::{self, Write};
 
-// Some four hundred lines.
+// Some four hundred lines. Only the words, which come last, may take more.
 const ROOM: usize = 16384;
+
+// The longest line of an action, a refusal and a record.
+const LINE: usize = 41;
 
 #[derive(Drop)]
 pub(crate) struct Waiting<'a, P> {
@@ -31,6 +34,9 @@ impl<P: Print> Write for Waiting<'_, P> {
         let n = text.len().min(ROOM - from);
         self.bytes[from..from + n].copy_from_slice(&text[..n]);
         self.filled = from + n;
+        if text.last() == Some(&b'\n') && ROOM - self.filled.min(ROOM) < LINE {
+            self.flush()?;
+        }
         Ok(n)
     }
 
