@@ -14,8 +14,8 @@ use table_words::place::Place;
 use table_words::shape::{GoodShape, good_table};
 use table_words::word::occupied;
 
-// The occupied ones among the n places of a table. Each bit is added, without a branch, so that the loop is vector code:
-// a filter and a count took nine times the instructions.
+// The occupied ones among the n places of a table. Each bit is added, without a branch, so that the loop is vector
+// code: a filter and a count took nine times the instructions.
 fn count_occupied(table: &[u8], n: u32) -> u32
     requires size { length table.now ≡ 2 * n }
     requires n_bound { n ≤ 1048578 }
