@@ -1,11 +1,11 @@
 // The fill figure (01, Answers and their numbers).
-ghost use Rattle.std.specs.Prelude.{◌≡◌, ◌*◌, ◌≤◌, length, count_by};
-ghost use Rattle.std.specs.List.{range_with_len};
+ghost use Rattle.std.specs.Prelude.{◌≡◌, ◌*◌, ◌≤◌, length};
+ghost use Rattle.rules.specs.Lists.{count};
 ghost use Rattle.rules.specs.Bytes.{words_of};
 ghost use Rattle.rules.specs.Shape.{shape_of, places};
-ghost use Rattle.rules.specs.Table.{at};
 ghost use Rattle.rules.specs.Fill.{figure as spec-figure, fill as spec_fill};
 ghost use Rattle.rules.specs.Answer.{number_says};
+ghost use Rattle.theory.specs.Dealt.{is_occupied};
 
 use rules::Refusal;
 use table_words::bit::bit_of;
@@ -19,7 +19,7 @@ use table_words::word::occupied;
 fn count_occupied(table: &[u8], n: u32) -> u32
     requires size { length table.now ≡ 2 * n }
     requires n_bound { n ≤ 1048578 }
-    ensures { result ≡ count_by (λ i. (at (words_of table.now) i).occupied) (range_with_len 0 n) }
+    ensures { result ≡ count is_occupied (words_of table.now) }
 {
     let mut k = 0;
     for i in 0..n {

@@ -1,7 +1,7 @@
 -- A whole table in two passes, for any words: `tidy`, each word held against the next one, and `even_gaps`, as many
 -- homes as groups at each gap; the laws of the two loops; both passes over a cluster and its gap, `fine_cluster`.
 -- Assumes nothing.
-use Rattle.std.specs.Prelude.{ℕ, zero, suc, ◌+◌, ◌-◌, ◌*◌, ◌≤◌, ◌<◌, ◌≡◌, Bool, cond, ◌&&◌, ◌||◌, List, [], ◌∷◌, ◌++◌, ltb, eqb, length, Result, Ok, Err}
+use Rattle.std.specs.Prelude.{ℕ, zero, suc, ◌+◌, ◌-◌, ◌*◌, ◌≤◌, ◌<◌, ◌≡◌, Bool, ◌&&◌, ◌||◌, List, [], ◌∷◌, ◌++◌, ltb, eqb, length, Result, Ok, Err}
 use Rattle.std.proofs.Math.Path.{refl}
 use Rattle.std.proofs.Common.{sym, ap, ◌∙◌, zero-add, add-zero, add_assoc, arith, lt-ltb, eqb-true, eq-eqb, ne_eqb}
 use Rattle.std.proofs.Math.Bool.{true, false, and-true, and-false, or-false, and_assoc, or_assoc}
@@ -10,7 +10,6 @@ use Rattle.std.proofs.Math.Seq.{slice}
 use Rattle.std.proofs.lemmas.Bool.{eqb-false}
 use Rattle.rules.specs.declared.Shape.{Shape}
 use Rattle.rules.specs.declared.Refusal.{Refusal}
-use Rattle.rules.specs.declared.Refusal.TheVariants.{Unsound, Locked}
 use Rattle.rules.specs.Lists.{bit_of, count, all, any}
 use Rattle.rules.specs.Word.{Word, word_of, is_void}
 use Rattle.rules.specs.Bytes.{words_of}
@@ -23,7 +22,7 @@ use Rattle.table_words.specs.All.{all_append}
 use Rattle.theory.specs.Dealt.{is_change, is_virgin, is_occupied, is_low, and_left, and_right}
 use Rattle.theory.specs.Locks.{void_unlock}
 use Rattle.table_cluster.specs.Run.{run_step, run_end}
-use Rattle.table_cluster.specs.Check.{rises, rises_to, rises_ends, over_low, over_lock, void_remainder}
+use Rattle.table_cluster.specs.Check.{passed, rises, rises_to, rises_ends, over_low, over_lock, void_remainder}
 use Rattle.table_list.specs.declared.check.Order.{Order}
 use Rattle.table_list.specs.declared.check.Gaps.{Gaps}
 use Rattle.table_list.specs.declared.check.Check.{Check}
@@ -55,22 +54,22 @@ gaps_of ws = record { even = even_gaps 0 0 ws; keys = count is_occupied ws }
 unfoldable pub check_of : Shape → List Word → Check
 check_of sh ws = record { sound = sound sh ws; locked = locked ws; keys = count is_occupied ws }
 
--- the number of keys, or what the table is refused by: soundness comes before the locks
-unfoldable pub passed : Check → Result ℕ Refusal
-passed c = cond c.sound (cond c.locked (Err Locked) (Ok c.keys)) (Err Unsound)
+-- what a call that reads the whole table is refused by
+abbrev pub barred : Check → Result Unit Refusal
+barred c = passed (record { sound = c.sound; locked = c.locked })
 
--- a table that passes is sound and not locked, and the number is that of its occupied words
+-- a table that passes is sound and not locked
 pub check_good :
-    (sh : Shape) (ws : List Word) (n : ℕ) → Ok n ≡ passed (check_of sh ws) →
-    (sound sh ws ≡ true) × (locked ws ≡ false) × (n ≡ count is_occupied ws)
-unfolding check_of passed
-check_good sh ws n e = grind arith
+    (sh : Shape) (ws : List Word) (u : Unit) → Ok u ≡ barred (check_of sh ws) →
+    (sound sh ws ≡ true) × (locked ws ≡ false)
+unfolding check_of
+check_good sh ws u e = grind arith
 
 -- a table that does not pass is not listed
 pub check_refused :
-    (sh : Shape) (ws : List Word) (slots : List ℕ) (n : Refusal) → Err n ≡ passed (check_of sh ws) →
+    (sh : Shape) (ws : List Word) (slots : List ℕ) (n : Refusal) → Err n ≡ barred (check_of sh ws) →
     leaves (refuses (number_of_refusal n)) slots ≡ list_in sh ws slots
-unfolding check_of passed list_in
+unfolding check_of list_in
 check_refused sh ws slots n e = grind arith
 
 -- ---- the first pass: what is known of the words behind, and the words ws to come

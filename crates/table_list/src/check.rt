@@ -5,7 +5,6 @@ ghost use Rattle.rules.specs.Word.{word_of};
 ghost use Rattle.rules.specs.Bytes.{words_of};
 ghost use Rattle.table_list.specs.Check as spec;
 
-use rules::Refusal;
 use table_cluster::guards::guards_void;
 use table_words::bit::bit_of;
 use table_words::place::{Place, left_of};
@@ -32,22 +31,6 @@ pub struct Check {
     pub sound: bool,
     pub locked: bool,
     pub keys: u32,
-}
-
-impl Check {
-    // The number of keys of a table that is sound and not locked. Soundness comes before the locks.
-    #[tactic(auto, unfolding(crate::specs::Check::passed))]
-    pub fn passes(self) -> Result<u32, Refusal>
-        ensures { result ≡ spec.passed self }
-    {
-        if !self.sound {
-            Err(Refusal::Unsound)
-        } else if self.locked {
-            Err(Refusal::Locked)
-        } else {
-            Ok(self.keys)
-        }
-    }
 }
 
 // Whether the word v may stand before the word w.

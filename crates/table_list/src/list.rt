@@ -8,6 +8,7 @@ ghost use Rattle.rules.specs.Listing.{list_in, listing};
 use crate::check::check_table;
 use crate::keys::write_keys;
 use rules::Refusal;
+use table_cluster::run::Check;
 use table_words::table::Table;
 
 #[tactic(auto, using(crate::specs::Check::check_refused))]
@@ -15,7 +16,13 @@ fn list_in(t: Table, slots: &mut [u32]) -> Result<usize, Refusal>
     ensures { leaves (number_says result) slots.new
         ≡ list_in t.entry.sh.shape (words_of t.entry.bytes.now) slots.old }
 {
-    let n = check_table(t).passes()? as usize;
+    let check = check_table(t);
+    let seen = Check {
+        sound: check.sound,
+        locked: check.locked,
+    };
+    seen.passes()?;
+    let n = check.keys as usize;
     if n <= slots.len() {
         write_keys(t, n, slots);
         Ok(n)

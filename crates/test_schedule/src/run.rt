@@ -1,11 +1,12 @@
 // A run of a schedule: its table and its records. The first line begins it, the second may say the words, and each
 // further line is an action: a step, a give, or a record stored as it is, by its length.
-ghost use Rattle.std.specs.Prelude.{◌≡◌, false, IfNone, IfSome, min, replicate, take};
-ghost use Rattle.rules.specs.Record.{no_task};
+ghost use Rattle.std.specs.Prelude.{◌≡◌, IfNone, take};
+ghost use Rattle.test_schedule.specs.Begins.{begun, words_read, words_told};
 
-use crate::numbers::{Numbers, first_line, numbers_at};
+use crate::numbers::{Numbers, numbers_at};
 use crate::record::{Shown, record_in, two};
 use frame_digits::read::Digits;
+use frame_first::first::read_first;
 use frame_first::table::read_table;
 use rules::{Refusal, Task};
 use table_words::shape::GoodShape;
@@ -31,22 +32,25 @@ pub struct Run {
 impl Run {
     /// The first line. None where it is bad.
     pub fn begun(line: &[u8]) -> Option<Run>
-        ensures { IfSome result (λ run. (run.table ≡ replicate 32772 0) × (run.tasks ≡ replicate 255 no_task)) }
+        ensures { result ≡ begun line.now }
     {
-        let first = first_line(line)?;
-        let sh = GoodShape { shape: first.shape };
+        let f = read_first(line)?;
+        let sh = GoodShape { shape: f.shape };
         Some(Run {
-            first,
-            used: (2 * sh.places() as usize).min(TABLE),
+            first: Numbers {
+                shape: f.shape,
+                records: f.tasks as u8,
+            },
+            used: 2 * sh.places() as usize,
             table: [0; TABLE],
             tasks: [no_task(); RECORDS],
         })
     }
 
     /// The second line: empty, which leaves the words zero, or all the table's words. Whether it is good.
-    #[tactic(auto, unfolding(frame_rules::specs::TableLine::read_table))]
+    #[tactic(auto, unfolding(crate::specs::Begins::words_read, crate::specs::Begins::words_from, crate::specs::Begins::with_used))]
     pub fn read_words(&mut self, line: &[u8]) -> bool
-        ensures { result ≡ false → self.new ≡ self.old }
+        ensures { words_told result self.new ≡ words_read self.old line.now }
     {
         let used = self.used.min(TABLE);
         line.is_empty() || read_table(self.first.shape, line, &mut self.table[..used])
@@ -54,7 +58,7 @@ impl Run {
 
     /// The table's bytes, two a word, low byte first.
     pub fn table(&self) -> &[u8]
-        ensures { result.now ≡ take (min self.now.used 32772) self.now.table }
+        ensures { result.now ≡ take self.now.used self.now.table }
     {
         &self.table[..self.used.min(TABLE)]
     }

@@ -1,7 +1,6 @@
 -- `figure` meets its contract: the shape's range keeps the sum and the product within 32 bits.
 -- Assumes nothing.
-use Rattle.std.proofs.Common.{◌≡◌, ◌∙◌, rules, arith}
-use Rattle.rules.specs.Lists.{count}
+use Rattle.std.proofs.Common.{rules, arith}
 use Rattle.rules.specs.Bytes.{words_of}
 use Rattle.rules.specs.Shape.{places}
 use Rattle.rules.specs.Fill.{figure}
@@ -9,19 +8,11 @@ use Rattle.table_words.specs.Range.{homes_high}
 use Rattle.table_words.specs.Layout.{words_length}
 use Rattle.table_words.specs.Counts.{count_le}
 use Rattle.theory.specs.Dealt.{is_occupied}
-use Rattle.table_find.specs.Count.{count_table}
 use Rattle.table_find.proofs.fill.figure.Goals as goal
-use Rattle.table_find.proofs.fill.figure.Goals.{After-count_occupied}
 
 pub count_occupied-requires-clause-n_bound : goal.count_occupied-requires-clause-n_bound
 unfolding places
 count_occupied-requires-clause-n_bound c = omega (arith, homes_high c.args.sh.shape c.args.sh.in_range)
-
--- the places counted are those of the occupied words
-counted : (c : After-count_occupied) → c.count_occupied.result ≡ count is_occupied (words_of c.args.table.now)
-counted c =
-    c.count_occupied.ensures
-    ∙ count_table is_occupied c.args.table.now c.places-n.result (rw c.places-n.ensures c.requires.size)
 
 pub overflow_mul-result : goal.overflow_mul-result
 unfolding places
@@ -29,7 +20,7 @@ overflow_mul-result c =
     let ws = words_of c.args.table.now in
     omega (
       arith,
-      counted (goal.at.overflow_mul-result c).After-count_occupied,
+      c.count_occupied.ensures,
       homes_high c.args.sh.shape c.args.sh.in_range,
       count_le is_occupied ws,
       words_length c.args.table.now (places c.args.sh.shape) c.requires.size,
@@ -41,4 +32,4 @@ nonzero_div-result c = search rules
 
 pub returns : goal.returns
 unfolding figure
-returns c = rw (counted (goal.at.returns c).After-count_occupied, c.places-n.ensures)
+returns c = rw (c.count_occupied.ensures, c.places-n.ensures)

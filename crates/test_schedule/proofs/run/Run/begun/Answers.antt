@@ -1,9 +1,22 @@
--- `begun` meets its contract: every byte is zero, and every record is that of no task.
+-- `begun` meets its contract: a good first line is within its limits, so its shape is in range.
 -- Assumes nothing.
-use Rattle.std.proofs.Common.{ap, replicate}
-use Rattle.std.proofs.Math.Path.{refl}
-use Rattle.rules.specs.declared.Task.{Task}
+use Rattle.std.proofs.Common.{ℕ, ◌*◌, ◌∙◌, ap, arith}
+use Rattle.frame_rules.specs.Frame.{used}
+use Rattle.test_schedule.specs.Begins.{begun_good, begun_bad}
+use Rattle.test_schedule.proofs.Good.{good_limits}
 use Rattle.test_schedule.proofs.run.Run.begun.Goals as goal
 
+pub overflow_cast-result : goal.overflow_cast-result
+overflow_cast-result c = omega (arith, (good_limits _ _ _ c.read_first.ensures c.in_ok-f.was).tasks_high)
+
+pub invariant_of-sh : goal.invariant_of-sh
+invariant_of-sh c = record { in_range = (good_limits _ _ _ c.read_first.ensures c.in_ok-f.was).range }
+
+pub returns-in_err-f : goal.returns-in_err-f
+returns-in_err-f c = c.from_residual.ensures ∙ begun_bad _ _ c.read_first.ensures c.in_err-f.was
+
 pub returns : goal.returns
-returns c = (refl, ap (λ (t : Task). replicate 255 t) c.no_task.ensures)
+unfolding used
+returns c =
+    begun_good _ _ c.in_ok-f.f _ _
+    c.read_first.ensures c.in_ok-f.was (ap (λ (n : ℕ). 2 * n) c.places.ensures) c.no_task.ensures
