@@ -59,8 +59,8 @@ abbrev pub words_told : Bool → Run → WordsRead
 words_told good run = record { good = good; run = run }
 
 -- the first bytes of the table are those that the line's reader leaves
-unfoldable pub with_used : Run → List ℕ → Run
-with_used run part =
+unfoldable pub with_words : Run → List ℕ → Run
+with_words run part =
     record {
       first = run.first;
       used = run.used;
@@ -69,7 +69,7 @@ with_used run part =
     }
 
 unfoldable pub words_from : Run → TableRead → WordsRead
-words_from run x = words_told x.good (with_used run x.table)
+words_from run x = words_told x.good (with_words run x.table)
 
 -- an empty line leaves the words zero
 unfoldable pub words_read : Run → List ℕ → WordsRead

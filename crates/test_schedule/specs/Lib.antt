@@ -1,1 +1,2 @@
+-- What the first and the second line make of a run of a schedule.
 pub mod Begins

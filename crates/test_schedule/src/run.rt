@@ -48,7 +48,7 @@ impl Run {
     }
 
     /// The second line: empty, which leaves the words zero, or all the table's words. Whether it is good.
-    #[tactic(auto, unfolding(crate::specs::Begins::words_read, crate::specs::Begins::words_from, crate::specs::Begins::with_used))]
+    #[tactic(auto, unfolding(crate::specs::Begins::words_read, crate::specs::Begins::words_from, crate::specs::Begins::with_words))]
     pub fn read_words(&mut self, line: &[u8]) -> bool
         ensures { words_told result self.new ≡ words_read self.old line.now }
     {
