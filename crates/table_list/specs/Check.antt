@@ -58,10 +58,10 @@ check_of sh ws = record { sound = sound sh ws; locked = locked ws; keys = count 
 abbrev pub barred : Check → Result Unit Refusal
 barred c = passed (record { sound = c.sound; locked = c.locked })
 
--- a table that passes is sound and not locked
+-- a table that passes is sound and not locked, and the number told is that of its occupied words
 pub check_good :
     (sh : Shape) (ws : List Word) (u : Unit) → Ok u ≡ barred (check_of sh ws) →
-    (sound sh ws ≡ true) × (locked ws ≡ false)
+    (sound sh ws ≡ true) × (locked ws ≡ false) × ((check_of sh ws).keys ≡ count is_occupied ws)
 unfolding check_of
 check_good sh ws u e = grind arith
 

@@ -7,7 +7,7 @@ use Rattle.rules.specs.Table.{sound, locked, list}
 use Rattle.rules.specs.Listing.{list_in}
 use Rattle.table_words.specs.Range.{remainders_high}
 use Rattle.table_words.specs.Layout.{words_length}
-use Rattle.table_list.specs.Check.{check_of, barred, check_good}
+use Rattle.table_list.specs.Check.{barred, check_good}
 use Rattle.table_list.specs.Queue.{keys_counted}
 use Rattle.table_list.specs.declared.check.Check.{Check}
 use Rattle.table_list.proofs.list.list_in.Goals as goal
@@ -18,12 +18,12 @@ module _ (c : In_ok-passes) where
   abbrev told : (sound c.args.t.sh.shape (words_of c.args.t.bytes.now) ≡ true)
       × (locked (words_of c.args.t.bytes.now) ≡ false)
       × (c.check_table-check.result.keys ≡ length (list c.args.t.sh.shape (words_of c.args.t.bytes.now)))
-  unfolding check_of
   told =
       let good = check_good _ _ _ (c.in_ok-passes.ensures ∙ ap barred c.check_table-check.ensures) in (
         good.0,
         good.1,
         ap (λ (x : Check). x.keys) c.check_table-check.ensures
+            ∙ good.2
             ∙ keys_counted c.args.t.sh.shape (words_of c.args.t.bytes.now)
             (remainders_high c.args.t.sh.shape c.args.t.sh.in_range)
             (words_length c.args.t.bytes.now _ c.args.t.size)
