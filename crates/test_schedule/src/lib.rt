@@ -3,5 +3,5 @@
 #![tactic(auto)]
 
 mod numbers;
-mod record;
+pub mod record;
 pub mod run;

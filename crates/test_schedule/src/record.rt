@@ -1,6 +1,7 @@
 // A task's record as digits: key 8, phase 2, left 6, right 6, hand 6, goal 6, mark 2, answer 2.
 // A line that is shown has a refusal's number before them, two digits.
 ghost use Rattle.std.specs.Prelude.{◌≡◌, ◌+◌, ◌≤◌, length};
+ghost use Rattle.test_schedule.specs.Record.{two, record_in};
 
 use frame_digits::print::put_bytes;
 use frame_digits::read::Digits;
@@ -10,6 +11,7 @@ use std::fmt;
 // What two digits write.
 pub fn two(line: Digits, at: usize) -> u8
     requires { at + 2 ≤ length line.text.now }
+    ensures { result ≡ two line.entry.text.now at }
 {
     line.number(at, 2) as u8
 }
@@ -17,6 +19,7 @@ pub fn two(line: Digits, at: usize) -> u8
 // The record of a line that stores one, behind the task number.
 pub fn record_in(line: Digits) -> Task
     requires { length line.text.now ≡ 40 }
+    ensures { result ≡ record_in line.entry.text.now }
 {
     Task {
         key: line.number(2, 8),
@@ -63,5 +66,40 @@ impl fmt::Display for Shown {
         let mut digits = [0; 40];
         put_bytes(&self.bytes(), &mut digits);
         f.write_str(str::from_utf8(&digits).unwrap_or_default())
+    }
+}
+
+#[cfg(test)]
+mod tests {
+    use super::*;
+
+    #[test]
+    fn two_digits_from_a_place(rt: HostRuntime) {
+        let Some(line) = Digits::read(b"0aF9") else {
+            return assert!(rt; false, "these are digits");
+        };
+        assert_eq!(rt; line.text.len(), 4);
+        assert_eq!(rt; two(line, 0), 0x0A);
+        assert_eq!(rt; two(line, 1), 0xAF);
+        assert_eq!(rt; two(line, 2), 0xF9);
+    }
+
+    #[test]
+    fn record_behind_its_task(rt: HostRuntime) {
+        let Some(line) = Digits::read(b"0589ABCDEF0D0000010000020000030000FF0302") else {
+            return assert!(rt; false, "these are digits");
+        };
+        assert_eq!(rt; line.text.len(), 40);
+        let stored = Task {
+            key: 0x89ABCDEF,
+            phase: 13,
+            left: 1,
+            right: 2,
+            hand: 3,
+            goal: 0xFF,
+            mark: 3,
+            answer: 2,
+        };
+        assert_eq!(rt; record_in(line), stored);
     }
 }
