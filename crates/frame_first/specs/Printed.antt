@@ -33,7 +33,7 @@ module _ (d : ℕ) (low : d < 16) where
             le-leb (55 + d) 70 (omega arith),
           )
 
-  glyph_worth : worth (glyph d) ≡ d
+  pub glyph_worth : worth (glyph d) ≡ d
   unfolding worth glyph
   glyph_worth = go (leb d 9) refl
     where

@@ -1,7 +1,8 @@
 // A task's record as digits: key 8, phase 2, left 6, right 6, hand 6, goal 6, mark 2, answer 2.
 // A line that is shown has a refusal's number before them, two digits.
-ghost use Rattle.std.specs.Prelude.{◌≡◌, ◌+◌, ◌≤◌, length};
+ghost use Rattle.std.specs.Prelude.{◌≡◌, ◌+◌, ◌≤◌, length, Some};
 ghost use Rattle.test_schedule.specs.Record.{two, record_in};
+ghost use Rattle.test_schedule.specs.Shown.{shown, shown_bytes};
 
 use frame_digits::print::put_bytes;
 use frame_digits::read::Digits;
@@ -17,6 +18,7 @@ pub fn two(line: Digits, at: usize) -> u8
 }
 
 // The record of a line that stores one, behind the task number.
+#[tactic(auto, using(crate::specs::Record::fields_at))]
 pub fn record_in(line: Digits) -> Task
     requires { length line.text.now ≡ 40 }
     ensures { result ≡ record_in line.entry.text.now }
@@ -42,7 +44,9 @@ pub struct Shown {
 
 // Places have six digits: a stored record's are below 2^24, and steps keep them below 2^21.
 impl Shown {
-    fn bytes(self) -> [u8; 20] {
+    fn bytes(self) -> [u8; 20]
+        ensures { result ≡ shown_bytes self }
+    {
         let t = self.task;
         let refusal = match self.done {
             Ok(()) => 0,
@@ -62,6 +66,8 @@ impl Shown {
 
 // Its forty digits at once: to format each number apart takes three times the instructions of a whole line.
 impl fmt::Display for Shown {
+    ghost output = { λ s. Some (shown s) };
+
     fn fmt<W: fmt::Write>(&self, f: &mut fmt::Formatter<W>) -> fmt::Result {
         let mut digits = [0; 40];
         put_bytes(&self.bytes(), &mut digits);
